@@ -1,0 +1,76 @@
+// The plain card.
+ghost use mathlib.Core.Path.{_≡_};
+ghost use Prim.Native.Nat.{ℕ, _+_};
+ghost use lib.ListN.{length};
+ghost use denote.Ref.{name};
+ghost use Rattle.disk.specs.Meaning.{Blocks, Whole, refusal, answered, filled, written, counted};
+ghost use Rattle.disk.specs.Plain.{bytesOf, plainBlocks, plainWritten};
+use crate::BLOCK;
+use crate::Disk;
+use crate::DiskFault;
+use crate::MOST_BLOCKS;
+
+#[derive(Drop)]
+pub struct PlainCard<'a> {
+    bytes: &'a mut [u8],
+    writes: u64,
+}
+
+impl<'a> PlainCard<'a> {
+    // A card that lies in these bytes and has granted no write.
+    pub fn new(bytes: &'a mut [u8]) -> PlainCard<'a>
+        ensures bytes { λ r. ⌜ bytesOf r ≡ now (bytes .entry) ⌝ }
+        ensures writes { λ r. ⌜ r .writes ≡ 0 ⌝ }
+        ensures lender { λ r. ⌜ name (r .bytes) ≡ name (bytes .entry) ⌝ }
+    {
+        PlainCard { bytes, writes: 0 }
+    }
+
+    // How many writes the card has granted, round again at 2^64.
+    pub fn worn(&self) -> u64
+        ensures { λ r. ⌜ r ≡ now (self .entry) .writes ⌝ }
+    {
+        self.writes
+    }
+}
+
+pub impl<'a> Disk for PlainCard<'a> as PlainCardDisk {
+    ghost blocks = { λ s. plainBlocks (bytesOf s) };
+
+    ghost writes = { λ s. s .writes };
+
+    fn count(&self) -> u32 {
+        (self.bytes.len() / BLOCK).min(MOST_BLOCKS) as u32
+    }
+
+    fn read(&self, block: u32, buf: &mut [u8]) -> Result<(), DiskFault> {
+        if block >= self.count() {
+            return Err(DiskFault::Beyond(block));
+        }
+        if buf.len() != BLOCK {
+            return Err(DiskFault::Length(block));
+        }
+        let at = BLOCK * block as usize;
+        buf.copy_from_slice(&self.bytes[at..at + BLOCK]);
+        Ok(())
+    }
+
+    fn write(&mut self, block: u32, buf: &[u8]) -> Result<(), DiskFault>
+        ensures answer { λ r. ⌜ r ≡ answered (refusal (plainBlocks (bytesOf (now (self .entry)))) block (length (now (buf .entry)))) ⌝ }
+        ensures blocks { λ r. ⌜ plainBlocks (bytesOf (now (self .exit))) ≡ written (plainBlocks (bytesOf (now (self .entry)))) block (now (buf .entry)) ⌝ }
+        ensures writes { λ r. ⌜ now (self .exit) .writes ≡ counted (plainBlocks (bytesOf (now (self .entry)))) block (length (now (buf .entry))) (now (self .entry) .writes) ⌝ }
+        ensures bytes { λ r. ⌜ bytesOf (now (self .exit)) ≡ plainWritten (bytesOf (now (self .entry))) block (now (buf .entry)) ⌝ }
+        ensures lender { λ r. ⌜ name (now (self .exit) .bytes) ≡ name (now (self .entry) .bytes) ⌝ }
+    {
+        if block >= self.count() {
+            return Err(DiskFault::Beyond(block));
+        }
+        if buf.len() != BLOCK {
+            return Err(DiskFault::Length(block));
+        }
+        let at = BLOCK * block as usize;
+        self.bytes[at..at + BLOCK].copy_from_slice(buf);
+        self.writes = self.writes.wrapping_add(1);
+        Ok(())
+    }
+}
