@@ -1,0 +1,9 @@
+-- A journal is open where it has a log.
+use mathlib.Core.Path.{_≡_, refl}
+use Rattle.std.specs.Options.{isSome, mapped}
+use Rattle.std.specs.declared.option.Option.{Option}
+use Rattle.std.specs.declared.option.Option.the-variants.{Some, None}
+
+pub isSome-mapped : {X Y : Type 0} (f : X → Y) (o : Option X) → isSome (mapped f o) ≡ isSome o
+isSome-mapped f None = refl
+isSome-mapped f (Some x) = refl

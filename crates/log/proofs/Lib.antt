@@ -1,0 +1,4 @@
+pub mod Fetch
+pub mod Checks
+pub mod Opening
+pub mod Writes

@@ -1,0 +1,5 @@
+pub mod Tests
+pub mod Order
+pub mod Card
+pub mod Format
+pub mod Calls
