@@ -4,7 +4,7 @@ ghost use mathlib.Core.List.{map};
 ghost use Prim.Native.Nat.{ℕ, _<_, _^_};
 ghost use lib.ListN.{length, getD};
 ghost use Rattle.card.specs.Bytes.{allZero, field};
-ghost use Rattle.card.specs.Layout.{slot as slotOf, logBlock, headerBlock, startBlock, headerIn, startIn, homeIn, Slots-differ};
+ghost use Rattle.card.specs.Layout.{slots, slot as slotOf, logBlock, homesIn, headerBlock, startBlock, headerIn, startIn, homeIn, Slots-differ};
 use disk::BLOCK;
 
 // How many slots the log has.
@@ -35,12 +35,20 @@ pub struct Update {
     pub bytes: [u8; BLOCK],
 }
 
+// How many positions have slots of their own: any that are less than that apart.
+fn apart() -> u64
+    ensures count { λ r. ⌜ r ≡ slots ⌝ }
+    ensures law { λ r. ⌜ Slots-differ ⌝ }
+{
+    SLOTS as u64
+}
+
 // The slot of a position.
 pub fn slot(position: u64) -> usize
     ensures value { λ r. ⌜ r ≡ slotOf position ⌝ }
     ensures apart { λ r. ⌜ Slots-differ ⌝ }
 {
-    (position % SLOTS as u64) as usize
+    (position % apart()) as usize
 }
 
 // The log block of a position.
@@ -86,31 +94,46 @@ fn first_u64(block: &[u8; BLOCK]) -> u64
     ])
 }
 
+// The bytes of block 0 with this end and these home numbers.
+fn header_bytes(end: u64, homes: &[u32; SLOTS]) -> [u8; BLOCK]
+    ensures bytes { λ r. ⌜ r ≡ headerBlock (record { end = end; homes = now (homes .entry) }) ⌝ }
+    ensures decodes { λ r. ⌜ headerIn r ≡ record { end = end; homes = now (homes .entry) } ⌝ }
+{
+    let mut block = [0u8; BLOCK];
+    block[0..8].copy_from_slice(&end.to_le_bytes());
+    for s in 0..SLOTS {
+        let at = 8 + 4 * s;
+        block[at..at + 4].copy_from_slice(&homes[s].to_le_bytes());
+    }
+    block
+}
+
+// The home numbers in block 0.
+fn homes_in(block: &[u8; BLOCK]) -> [u32; SLOTS]
+    ensures { λ r. ⌜ r ≡ homesIn (now (block .entry)) ⌝ }
+{
+    let mut homes = [0u32; SLOTS];
+    for s in 0..SLOTS {
+        homes[s] = u32_at(block, 8 + 4 * s);
+    }
+    homes
+}
+
 impl Header {
     // The bytes of block 0.
     pub fn encode(&self) -> [u8; BLOCK]
         ensures bytes { λ r. ⌜ r ≡ headerBlock (now (self .entry)) ⌝ }
         ensures decodes { λ r. ⌜ headerIn r ≡ now (self .entry) ⌝ }
     {
-        let mut block = [0u8; BLOCK];
-        let end = self.end;
-        block[0..8].copy_from_slice(&end.to_le_bytes());
-        for s in 0..SLOTS {
-            let at = 8 + 4 * s;
-            block[at..at + 4].copy_from_slice(&self.homes[s].to_le_bytes());
-        }
-        block
+        header_bytes(self.end, &self.homes)
     }
 
     // What the bytes of block 0 say.
     pub fn decode(block: &[u8; BLOCK]) -> Header
         ensures { λ r. ⌜ r ≡ headerIn (now (block .entry)) ⌝ }
     {
-        let mut homes = [0u32; SLOTS];
-        for s in 0..SLOTS {
-            homes[s] = u32_at(block, 8 + 4 * s);
-        }
         let end = first_u64(block);
+        let homes = homes_in(block);
         Header { end, homes }
     }
 

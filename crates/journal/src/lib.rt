@@ -2,10 +2,11 @@
 ghost use mathlib.Core.Path.{_≡_};
 ghost use Prim.Native.Nat.{ℕ};
 ghost use Rattle.std.specs.Options.{mapped};
+ghost use Rattle.std.specs.Vec.{made};
 ghost use Rattle.model.specs.Outcomes.{writesAfter};
 ghost use Rattle.model.specs.Journal.{shut, format as formatOutcome, opening, Format-again};
 ghost use Rattle.model.specs.Order.{Format-order, Opening-order};
-ghost use Rattle.journal.specs.View.{view};
+ghost use Rattle.journal.specs.View.{view, WhileOpen};
 use disk::Disk;
 use log::Log;
 use model::Fault;
@@ -33,14 +34,11 @@ impl<D: Disk> Journal<D> {
         ensures state { λ r. ⌜ view (now (self .exit)) ≡ formatOutcome (view (now (self .entry))) (D·Disk .blocks (now (self .entry) .disk)) .state ⌝ }
         ensures blocks { λ r. ⌜ D·Disk .blocks (now (self .exit) .disk) ≡ formatOutcome (view (now (self .entry))) (D·Disk .blocks (now (self .entry) .disk)) .disk ⌝ }
         ensures writes { λ r. ⌜ D·Disk .writes (now (self .exit) .disk) ≡ writesAfter (formatOutcome (view (now (self .entry))) (D·Disk .blocks (now (self .entry) .disk))) (D·Disk .writes (now (self .entry) .disk)) ⌝ }
-        ensures again { λ r. ⌜ Format-again (D·Disk .blocks (now (self .entry) .disk)) ⌝ }
+        ensures again { λ r. ⌜ made r (λ _. Format-again (D·Disk .blocks (now (self .entry) .disk))) ⌝ }
         ensures order { λ r. ⌜ Format-order ⌝ }
     {
-        if self.log.is_some() {
-            return Err(Fault::Opened);
-        }
-        log::format(&mut self.disk)?;
-        Ok(0)
+        self.check_shut()?;
+        self.format_card()
     }
 
     // Opens the journal with what the card holds, and answers the end position. Nothing is written.
@@ -50,13 +48,8 @@ impl<D: Disk> Journal<D> {
         ensures disk { λ r. ⌜ now (self .exit) .disk ≡ now (self .entry) .disk ⌝ }
         ensures order { λ r. ⌜ Opening-order ⌝ }
     {
-        if self.log.is_some() {
-            return Err(Fault::Opened);
-        }
-        let log = Log::open(&self.disk)?;
-        let end = log.end();
-        self.log = Some(log);
-        Ok(end)
+        self.check_shut()?;
+        self.open_card()
     }
 
     // The disk, to look at.
@@ -79,5 +72,45 @@ impl<D: Disk> Journal<D> {
     {
         let Journal { disk, log: _ } = self;
         disk
+    }
+}
+
+impl<D: Disk> Journal<D> {
+    // Refuses where the journal is open, as format and opening then do.
+    fn check_shut(&self) -> Result<(), Fault>
+        ensures state { λ r. ⌜ WhileOpen (view (now (self .entry))) r ⌝ }
+        ensures format_order { λ r. ⌜ Format-order ⌝ }
+        ensures opening_order { λ r. ⌜ Opening-order ⌝ }
+    {
+        if self.log.is_some() {
+            return Err(Fault::Opened);
+        }
+        Ok(())
+    }
+
+    // Format, on a shut journal.
+    fn format_card(&mut self) -> Result<u64, Fault>
+        requires { ⌜ view (now self) ≡ shut ⌝ }
+        ensures answer { λ r. ⌜ r ≡ formatOutcome (view (now (self .entry))) (D·Disk .blocks (now (self .entry) .disk)) .answer ⌝ }
+        ensures state { λ r. ⌜ view (now (self .exit)) ≡ formatOutcome (view (now (self .entry))) (D·Disk .blocks (now (self .entry) .disk)) .state ⌝ }
+        ensures blocks { λ r. ⌜ D·Disk .blocks (now (self .exit) .disk) ≡ formatOutcome (view (now (self .entry))) (D·Disk .blocks (now (self .entry) .disk)) .disk ⌝ }
+        ensures writes { λ r. ⌜ D·Disk .writes (now (self .exit) .disk) ≡ writesAfter (formatOutcome (view (now (self .entry))) (D·Disk .blocks (now (self .entry) .disk))) (D·Disk .writes (now (self .entry) .disk)) ⌝ }
+        ensures again { λ r. ⌜ made r (λ _. Format-again (D·Disk .blocks (now (self .entry) .disk))) ⌝ }
+    {
+        log::format(&mut self.disk)?;
+        Ok(0)
+    }
+
+    // Opening, on a shut journal.
+    fn open_card(&mut self) -> Result<u64, Fault>
+        requires { ⌜ view (now self) ≡ shut ⌝ }
+        ensures answer { λ r. ⌜ r ≡ opening (view (now (self .entry))) (D·Disk .blocks (now (self .entry) .disk)) .answer ⌝ }
+        ensures state { λ r. ⌜ view (now (self .exit)) ≡ opening (view (now (self .entry))) (D·Disk .blocks (now (self .entry) .disk)) .state ⌝ }
+        ensures disk { λ r. ⌜ now (self .exit) .disk ≡ now (self .entry) .disk ⌝ }
+    {
+        let log = Log::open(&self.disk)?;
+        let end = log.end();
+        self.log = Some(log);
+        Ok(end)
     }
 }

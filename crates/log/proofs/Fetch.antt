@@ -23,8 +23,9 @@ use Rattle.model.specs.declared.LogFault.the-variants.{Small, Dead}
 use Rattle.model.specs.Outcomes.{valueUnless, passed}
 use Rattle.model.specs.Log.{sizeTests, deadTest, cardTests}
 use Rattle.model.proofs.Tests.{past, first-from, value-ok, value-err}
-use Rattle.model.proofs.Card.{Ready, ready-card, ready-granted}
-use Rattle.log.specs.View.{fetched}
+use Rattle.model.specs.Card.{Ready}
+use Rattle.model.proofs.Card.{ready-card, ready-granted}
+use Rattle.log.specs.View.{fetched, CardChecked}
 
 dead-only : (t : Bool) (b : ℕ) (f : DiskFault) → cond (not t) (Some (DeadBlock b)) None ≡ Some f → (t ≡ false) × (f ≡ DeadBlock b)
 dead-only true b f e = let z : _≡_ {A = ℕ} 0 1 = cc in absurd (omega arith)
@@ -53,18 +54,23 @@ never-refused d r b h f e = let p = fetch-ready d r b h in let z : _≡_ {A = �
 size-passed : (d : Blocks) → homesFrom < length d → firstOf (sizeTests d) ≡ None
 size-passed d h = ap (λ t. cond t (Some Small) None) (lt-leb (length d) homesFrom h)
 
-pub card-small : (d : Blocks) → length d ≤ homesFrom → Err Small ≡ passed (firstOf (cardTests d))
+-- an answer to the check of a card, and what it tells
+refused : (d : Blocks) (f : LogFault) → firstOf (cardTests d) ≡ Some f → CardChecked d (Err f)
+refused d f e = record { answer = sym (ap passed e); known = e }
+
+pub card-small : (d : Blocks) → length d ≤ homesFrom → CardChecked d (Err Small)
 unfolding cardTests
-card-small d h = sym (ap (λ t. passed (cond t (Some Small) (firstOf (map (deadTest d) (counting 0 homesFrom))))) (le-leb (length d) homesFrom h))
+card-small d h = refused d Small (ap (λ t. cond t (Some Small) (firstOf (map (deadTest d) (counting 0 homesFrom)))) (le-leb (length d) homesFrom h))
 
 -- the first dead block is the place of the refusal
-pub card-dead : (d : Blocks) (b : ℕ) (f : DiskFault) → homesFrom < length d → b < homesFrom → ((k : ℕ) → k < b → isLive (block d k) ≡ true) → Err f ≡ fetched d b → Err (Dead f) ≡ passed (firstOf (cardTests d))
+pub card-dead : (d : Blocks) (b : ℕ) (f : DiskFault) → homesFrom < length d → b < homesFrom → ((k : ℕ) → k < b → isLive (block d k) ≡ true) → Err f ≡ fetched d b → CardChecked d (Err (Dead f))
 unfolding cardTests
 card-dead d b f large h before e =
     let g = fetch-dead d b f (omega arith) e in
-    ap (λ x. Err (Dead x)) (g .1) ∙
-    sym (ap passed (past (sizeTests d) (map (deadTest d) (counting 0 homesFrom)) (size-passed d large) ∙
-    first-from (deadTest d) 0 homesFrom b (omega arith) (omega arith) (λ q l m. ap not (before q m)) (ap not (g .0))))
+    refused d (Dead f)
+    (past (sizeTests d) (map (deadTest d) (counting 0 homesFrom)) (size-passed d large) ∙
+    first-from (deadTest d) 0 homesFrom b (omega arith) (omega arith) (λ q l m. ap not (before q m)) (ap not (g .0)) ∙
+    ap (λ x. Some (Dead x)) (sym (g .1)))
 
-pub card-passed : (d : Blocks) → Ready d → Ok tt ≡ passed (firstOf (cardTests d))
-card-passed d r = sym (ap passed (ready-card d r))
+pub card-passed : (d : Blocks) → Ready d → CardChecked d (Ok tt)
+card-passed d r = let e = ready-card d r in record { answer = sym (ap passed e); known = (e, r) }

@@ -29,7 +29,7 @@ use Rattle.model.specs.declared.LogFault.the-variants.{Dead}
 use Rattle.model.specs.Outcomes.{valueUnless, passed}
 use Rattle.model.specs.Log as model
 use Rattle.model.specs.Log.{either, reservedTests, positionTests, headTests, rangeTest, lifeTest, homeTests, cardTests, openingTests, logOn}
-use Rattle.model.proofs.Card.{Ready}
+use Rattle.model.specs.Card.{Ready}
 use Rattle.model.proofs.Tests.{value-ok, value-err, none-first, none-both, none-each, goes-on, halts, map-counting-same}
 use Rattle.log.specs.declared.open.Head.{Head}
 use Rattle.log.specs.Ring.{rowAt, rowsFrom}

@@ -1,11 +1,6 @@
 // What format and opening ask of a card.
 ghost use mathlib.Core.Path.{_≡_};
-ghost use Prim.Native.Nat.{_<_};
-ghost use lib.ListN.{length};
-ghost use Rattle.disk.specs.Tests.{firstOf};
-ghost use Rattle.model.specs.Outcomes.{passed};
-ghost use Rattle.model.specs.Log.{cardTests};
-ghost use Rattle.log.specs.View.{fetched};
+ghost use Rattle.log.specs.View.{fetched, CardChecked};
 use card::HOMES_FROM;
 use disk::BLOCK;
 use disk::Disk;
@@ -24,7 +19,7 @@ pub(crate) fn fetch<D: Disk>(disk: &D, block: u32) -> Result<[u8; BLOCK], DiskFa
 
 // There are enough blocks, and those below the data blocks are live.
 pub(crate) fn check_card<D: Disk>(disk: &D) -> Result<(), LogFault>
-    ensures { λ r. ⌜ r ≡ passed (firstOf (cardTests (D·Disk .blocks (now (disk .entry))))) ⌝ }
+    ensures { λ r. ⌜ CardChecked (D·Disk .blocks (now (disk .entry))) r ⌝ }
 {
     if disk.count() <= HOMES_FROM {
         return Err(LogFault::Small);

@@ -8,7 +8,7 @@ ghost use Rattle.disk.specs.Tests.{firstOf};
 ghost use Rattle.card.specs.Layout.{bytesOn, startOn, endOn, livePositions, updateOn, homesFrom, slots};
 ghost use Rattle.model.specs.Outcomes.{valueUnless, passed};
 ghost use Rattle.model.specs.Log.{reservedTests, positionTests, headTests, rangeTest, lifeTest, homeTests, openingTests, logOn};
-ghost use Rattle.model.proofs.Card.{Ready};
+ghost use Rattle.model.specs.Card.{Ready};
 ghost use Rattle.log.specs.Ring.{rowAt};
 ghost use Rattle.log.specs.View.{headOn, viewed};
 use crate::card::check_card;

@@ -15,15 +15,11 @@ use Rattle.card.specs.Layout.{endOn}
 use Rattle.model.specs.declared.LogFault.{LogFault}
 use Rattle.model.specs.declared.Fault.{Fault}
 use Rattle.model.specs.declared.Fault.the-variants.{Opened, Log as InLog}
-use Rattle.model.specs.Outcomes.{Outcome, decided, valueUnless, passed, afterWrites, writesAfter}
+use Rattle.model.specs.Outcomes.{Outcome, refusedBy, decided, valueUnless, passed, afterWrites, writesAfter}
 use Rattle.model.specs.Log as model
 use Rattle.model.specs.Log.{cardTests, openingTests, logOn, formatted}
 use Rattle.model.specs.Journal.{View, format, openTests, opening}
 use Rattle.model.proofs.Tests.{first-mapped, value-ok, value-err}
-
--- a call that changes nothing
-abbrev pub refusedBy : Fault → View → Blocks → Outcome View
-refusedBy f v d = record { answer = Err f; wrote = []; state = v; disk = d }
 
 pub mapped-none : (o : Option LogFault) → mapped InLog o ≡ None → o ≡ None
 mapped-none None e = refl

@@ -17,12 +17,9 @@ use Rattle.disk.specs.Meaning.{Block, Blocks, block, isLive, blockSize, bytesOr
 use Rattle.disk.proofs.Refusals.{granted, unless-none}
 use Rattle.card.specs.Layout.{homesFrom, bytesOn}
 use Rattle.model.specs.declared.LogFault.the-variants.{Small}
+use Rattle.model.specs.Card.{Ready}
 use Rattle.model.specs.Log.{sizeTests, deadTest, cardTests}
 use Rattle.model.proofs.Tests.{past, none-first, none-from, none-each}
-
-pub record Ready (d : Blocks) : Type 0 where
-  pub large : homesFrom < length d
-  pub alive : (b : ℕ) → b < homesFrom → isLive (block d b) ≡ true
 
 not-false : (b : Bool) → not b ≡ false → b ≡ true
 not-false true e = refl

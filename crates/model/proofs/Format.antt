@@ -16,10 +16,10 @@ use Rattle.model.specs.declared.LogFault.{LogFault}
 use Rattle.model.specs.declared.Fault.the-variants.{Log as InLog}
 use Rattle.model.specs.Outcomes.{Outcome, decided}
 use Rattle.model.specs.Log.{cardTests, zeros, halfFormatted, formatted}
-use Rattle.model.specs.Journal.{View, shut, format, formatTests, FormatLeaves, Format-again}
+use Rattle.model.specs.Journal.{shut, format, FormatLeaves, Format-again}
 use Rattle.model.proofs.Tests.{first-mapped}
-use Rattle.model.proofs.Calls.{mapped-none}
-use Rattle.model.proofs.Card.{Ready, card-ready, ready-card, ready-written, ready-set}
+use Rattle.model.specs.Card.{Ready}
+use Rattle.model.proofs.Card.{ready-card, ready-written, ready-set}
 
 pub half-is : (d : Blocks) → Ready d → halfFormatted d ≡ set d 0 (Some zeros)
 half-is d r = ready-written d r 0 (omega arith) zeros refl
@@ -33,20 +33,12 @@ formatted-is d r =
 pub format-granted : (d : Blocks) → Ready d → format shut d ≡ record { answer = Ok 0; wrote = 0 ∷ 1 ∷ []; state = shut; disk = formatted d }
 format-granted d r = ap (λ o. decided o shut d (record { answer = Ok 0; wrote = 0 ∷ 1 ∷ []; state = shut; disk = formatted d })) (first-mapped InLog (cardTests d) ∙ ap (mapped InLog) (ready-card d r))
 
-decided-ok : (o : Option _) (d : Blocks) (g : Outcome View) → decided o shut d g .answer ≡ Ok 0 → o ≡ None
-decided-ok None d g e = refl
-decided-ok (Some f) d g e = let z : _≡_ {A = ℕ} 0 1 = cc in absurd (omega arith)
-
-pub format-ready : (d : Blocks) → format shut d .answer ≡ Ok 0 → Ready d
-format-ready d e = card-ready d (mapped-none (firstOf (cardTests d)) (sym (first-mapped InLog (cardTests d)) ∙ decided-ok (firstOf (formatTests shut d)) d _ e))
-
 -- formatted once more
 again : (d left : Blocks) → Ready d → Ready left → formatted left ≡ formatted d → format shut left ≡ format shut d
 again d left r s e = format-granted left s ∙ ap (λ x. record { answer = Ok 0; wrote = 0 ∷ 1 ∷ []; state = shut; disk = x }) e ∙ sym (format-granted d r)
 
-pub format-again : (d : Blocks) → Format-again d
-format-again d ok left cut =
-    let r = format-ready d ok in
+pub format-again : (d : Blocks) → Ready d → Format-again d
+format-again d r left cut =
     let z = Some zeros in
     let half = ready-set d 0 zeros r (omega arith) in
     let full = ready-set (set d 0 z) 1 zeros half (omega arith) in

@@ -47,4 +47,4 @@ FormatLeaves d left = (left ≡ d) ⊎ (left ≡ halfFormatted d) ⊎ (left ≡ 
 
 -- a new journal on what it left formats it again, and leaves the same card
 abbrev pub Format-again : Blocks → Type 0
-Format-again d = format shut d .answer ≡ Ok 0 → (left : Blocks) → FormatLeaves d left → format shut left ≡ format shut d
+Format-again d = (left : Blocks) → FormatLeaves d left → format shut left ≡ format shut d

@@ -16,10 +16,14 @@ pub record Outcome (S : Type 0) : Type 0 where
   pub state : S
   pub disk : Blocks
 
+-- a call that is refused changes nothing
+abbrev pub refusedBy : {S : Type 0} → Fault → S → Blocks → Outcome S
+refusedBy f s d = record { answer = Err f; wrote = []; state = s; disk = d }
+
 -- the granted outcome where nothing is refused; else the fault, and all as it came in
 abbrev pub decided : {S : Type 0} → Option Fault → S → Blocks → Outcome S → Outcome S
 decided None s d granted = granted
-decided (Some f) s d granted = record { answer = Err f; wrote = []; state = s; disk = d }
+decided (Some f) s d granted = refusedBy f s d
 
 -- the value where nothing is refused, else the fault
 abbrev pub valueUnless : {F X : Type 0} → Option F → X → Result X F

@@ -1,6 +1,6 @@
 use mathlib.Core.Path.{refl}
 use Rattle.card.proofs.Slots.{slots-differ}
-use Rattle.card.proofs.slot.Needs as need
+use Rattle.card.proofs.apart.Needs as need
 
 pub returns : need.returns
-returns c = record { value = refl; apart = slots-differ }
+returns c = record { count = refl; law = slots-differ }
