@@ -5,6 +5,7 @@ ghost use lib.ListN.{length};
 ghost use Rattle.disk.specs.Meaning.{Blocks, Whole, refusal, answered, filled, written, counted};
 
 mod fault;
+mod marked;
 mod plain;
 mod window;
 
@@ -14,6 +15,8 @@ pub use fault::DiskFaultPartialEq;
 pub use fault::Layer;
 pub use fault::LayerDebug;
 pub use fault::LayerPartialEq;
+pub use marked::MarkedCard;
+pub use marked::MarkedCardDisk;
 pub use plain::PlainCard;
 pub use plain::PlainCardDisk;
 pub use window::Window;

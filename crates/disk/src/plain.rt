@@ -3,12 +3,15 @@ ghost use mathlib.Core.Path.{_≡_};
 ghost use Prim.Native.Nat.{ℕ, _+_};
 ghost use lib.ListN.{length};
 ghost use denote.Ref.{name};
-ghost use Rattle.disk.specs.Meaning.{Blocks, Whole, refusal, answered, filled, written, counted};
+ghost use Rattle.std.specs.declared.option.Option.the-variants.{Some};
+ghost use Rattle.disk.specs.Meaning.{Blocks, Whole, refusal, answered, filled, written, counted, blockSize};
+ghost use Rattle.disk.specs.Runs.{Located};
 ghost use Rattle.disk.specs.Plain.{bytesOf, plainBlocks, plainWritten};
 use crate::BLOCK;
 use crate::Disk;
 use crate::DiskFault;
 use crate::MOST_BLOCKS;
+use crate::fault::within;
 
 #[derive(Drop)]
 pub struct PlainCard<'a> {
@@ -32,6 +35,14 @@ impl<'a> PlainCard<'a> {
     {
         self.writes
     }
+
+    // Where a block begins, for a buffer of `len` bytes.
+    fn locate(&self, block: u32, len: usize) -> Result<usize, DiskFault>
+        ensures { λ r. ⌜ Located blockSize Some (bytesOf (now (self .entry))) block len r ⌝ }
+    {
+        within(block, self.count(), len)?;
+        Ok(BLOCK * block as usize)
+    }
 }
 
 pub impl<'a> Disk for PlainCard<'a> as PlainCardDisk {
@@ -44,13 +55,7 @@ pub impl<'a> Disk for PlainCard<'a> as PlainCardDisk {
     }
 
     fn read(&self, block: u32, buf: &mut [u8]) -> Result<(), DiskFault> {
-        if block >= self.count() {
-            return Err(DiskFault::Beyond(block));
-        }
-        if buf.len() != BLOCK {
-            return Err(DiskFault::Length(block));
-        }
-        let at = BLOCK * block as usize;
+        let at = self.locate(block, buf.len())?;
         buf.copy_from_slice(&self.bytes[at..at + BLOCK]);
         Ok(())
     }
@@ -62,13 +67,7 @@ pub impl<'a> Disk for PlainCard<'a> as PlainCardDisk {
         ensures bytes { λ r. ⌜ bytesOf (now (self .exit)) ≡ plainWritten (bytesOf (now (self .entry))) block (now (buf .entry)) ⌝ }
         ensures lender { λ r. ⌜ name (now (self .exit) .bytes) ≡ name (now (self .entry) .bytes) ⌝ }
     {
-        if block >= self.count() {
-            return Err(DiskFault::Beyond(block));
-        }
-        if buf.len() != BLOCK {
-            return Err(DiskFault::Length(block));
-        }
-        let at = BLOCK * block as usize;
+        let at = self.locate(block, buf.len())?;
         self.bytes[at..at + BLOCK].copy_from_slice(buf);
         self.writes = self.writes.wrapping_add(1);
         Ok(())

@@ -1,0 +1,45 @@
+-- Disks that lie in a run of bytes, which is cut into cells of one width, a block to a cell.
+use mathlib.Core.Path.{_≡_}
+use mathlib.Core.List.{List, map, _++_}
+use Prim.Native.Nat.{ℕ, _+_, _*_, _/_, _<_, _≤_, min}
+use lib.ListN.{length, take, drop}
+use Rattle.std.specs.Iters.{counting}
+use Rattle.std.specs.declared.option.Option.the-variants.{Some}
+use Rattle.std.specs.declared.result.Result.{Result}
+use Rattle.std.specs.declared.result.Result.the-variants.{Ok, Err}
+use Rattle.disk.specs.declared.fault.DiskFault.{DiskFault}
+use Rattle.disk.specs.Tests.{unless}
+use Rattle.disk.specs.Meaning.{Block, Blocks, block, blockSize, mostBlocks, refusal}
+
+-- how many cells of w bytes lie in n bytes, no more than a disk may have blocks
+abbrev pub fitting : ℕ → ℕ → ℕ
+fitting n w = min (n / w) mostBlocks
+
+-- cell i
+abbrev pub cell : ℕ → List ℕ → ℕ → List ℕ
+cell w bs i = take w (drop (w * i) bs)
+
+-- the blocks, where `told` reads a block off its cell
+abbrev pub cellBlocks : ℕ → (List ℕ → Block) → List ℕ → Blocks
+cellBlocks w told bs = map (λ i. told (cell w bs i)) (counting 0 (fitting (length bs) w))
+
+-- the bytes with those from `at` on replaced by the new ones
+abbrev pub overlaid : List ℕ → ℕ → List ℕ → List ℕ
+overlaid bs at new = take at bs ++ (new ++ drop (at + length new) bs)
+
+-- the bytes after a write of `new` to block b, granted or refused: the new ones at the start of its cell, and all others as they were
+abbrev pub cellWritten : ℕ → (List ℕ → Block) → List ℕ → ℕ → List ℕ → List ℕ
+cellWritten w told bs b new = unless (refusal (cellBlocks w told bs) b (length new)) (overlaid bs (w * b) new) bs
+
+-- block b, live, lies from `at` on, and a buffer of n bytes holds it
+pub record Lies (w : ℕ) (told : List ℕ → Block) (bs : List ℕ) (b n at : ℕ) : Type 0 where
+  pub inside : b < length (cellBlocks w told bs)
+  pub full : n ≡ blockSize
+  pub begins : at ≡ w * b
+  pub within : at + blockSize ≤ length bs
+  pub shows : block (cellBlocks w told bs) b ≡ Some (take blockSize (drop at bs))
+
+-- where block b lies for a buffer of n bytes, or why it may be neither read nor written
+abbrev pub Located : ℕ → (List ℕ → Block) → List ℕ → ℕ → ℕ → Result ℕ DiskFault → Type 0
+Located w told bs b n (Ok at) = Lies w told bs b n at
+Located w told bs b n (Err f) = refusal (cellBlocks w told bs) b n ≡ Some f
