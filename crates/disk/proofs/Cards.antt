@@ -2,22 +2,21 @@
 use mathlib.Core.Path.{_≡_, refl, sym, ap, subst, _∙_}
 use mathlib.Core.List.{List, [], _++_}
 use mathlib.Core.Bool.{Bool, true, false, cond}
-use Prim.Native.Nat.{ℕ, _+_, _-_, _*_, _<_, _≤_}
+use Prim.Native.Nat.{ℕ, _+_, _-_, _*_, _≤_}
 use native.Mathlib.Omega.{arith}
 use lib.Dec.{eqb, lit<, lit≤}
-use lib.ListN.{length, getD, take, drop, set, length-take, length-drop}
+use lib.ListN.{length, getD, take, drop, set}
 use borrow.Rule.Slice.PartMut.{putMid}
 use Rattle.std.specs.declared.option.Option.the-variants.{Some, None}
 use Rattle.std.specs.declared.result.Result.the-variants.{Ok}
 use Rattle.std.proofs.shelf.Lists.{append-nil, drop-all, take-at, take-take, getD-take, getD-drop, getD-append-right, length-take-le}
 use Rattle.std.proofs.shelf.Tests.{eq-eqb, ne-eqb, cond-true, cond-false}
-use Rattle.disk.specs.Tests.{unless}
-use Rattle.disk.specs.Meaning.{Block, Blocks, Whole, block, bytesOr, refusal, answered, filled, written, counted, oneMore}
+use Rattle.disk.specs.Meaning.{Block, Whole, bytesOr, refusal, answered, filled, written, counted, oneMore}
 use Rattle.disk.specs.Runs.{cell, cellBlocks, cellWritten, overlaid, Lies}
 use Rattle.disk.specs.Plain.{plainBlocks}
 use Rattle.disk.specs.Marked.{markedBlock, markedBlocks}
 use Rattle.disk.proofs.Disks.{refusal-inside, unless-none}
-use Rattle.disk.proofs.Cells.{whole-cells, block-cells, cells-overlaid, cell-within, overlaid-is}
+use Rattle.disk.proofs.Cells.{whole-cells, cells-overlaid, overlaid-is}
 
 -- a granted call on either card
 module _ {w b at : ℕ} {told : List ℕ → Block} {bs : List ℕ} (new : List ℕ) (k : Lies w told bs b (length new) at) where

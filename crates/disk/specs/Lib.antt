@@ -6,3 +6,4 @@ pub mod Plain
 pub mod Marked
 pub mod Above
 pub mod Window
+pub mod Pair

@@ -6,6 +6,7 @@ ghost use Rattle.disk.specs.Meaning.{Blocks, Whole, refusal, answered, filled,
 
 mod fault;
 mod marked;
+mod pair;
 mod plain;
 mod window;
 
@@ -17,6 +18,8 @@ pub use fault::LayerDebug;
 pub use fault::LayerPartialEq;
 pub use marked::MarkedCard;
 pub use marked::MarkedCardDisk;
+pub use pair::Pair;
+pub use pair::PairDisk;
 pub use plain::PlainCard;
 pub use plain::PlainCardDisk;
 pub use window::Window;

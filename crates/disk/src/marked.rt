@@ -1,9 +1,8 @@
 // The marked card.
 ghost use mathlib.Core.Path.{_≡_};
-ghost use Prim.Native.Nat.{ℕ, _+_};
 ghost use lib.ListN.{length};
 ghost use denote.Ref.{name};
-ghost use Rattle.disk.specs.Meaning.{Blocks, Whole, refusal, answered, filled, written, counted};
+ghost use Rattle.disk.specs.Meaning.{refusal, answered, written, counted};
 ghost use Rattle.disk.specs.Runs.{Located};
 ghost use Rattle.disk.specs.Marked.{markedBytes, markedSize, markedBlock, markedBlocks, markedWritten};
 use crate::BLOCK;

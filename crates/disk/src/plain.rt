@@ -1,10 +1,9 @@
 // The plain card.
 ghost use mathlib.Core.Path.{_≡_};
-ghost use Prim.Native.Nat.{ℕ, _+_};
 ghost use lib.ListN.{length};
 ghost use denote.Ref.{name};
 ghost use Rattle.std.specs.declared.option.Option.the-variants.{Some};
-ghost use Rattle.disk.specs.Meaning.{Blocks, Whole, refusal, answered, filled, written, counted, blockSize};
+ghost use Rattle.disk.specs.Meaning.{refusal, answered, written, counted, blockSize};
 ghost use Rattle.disk.specs.Runs.{Located};
 ghost use Rattle.disk.specs.Plain.{bytesOf, plainBlocks, plainWritten};
 use crate::BLOCK;
