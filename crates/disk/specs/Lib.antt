@@ -7,3 +7,4 @@ pub mod Marked
 pub mod Above
 pub mod Window
 pub mod Pair
+pub mod Order

@@ -7,6 +7,7 @@ ghost use Rattle.std.specs.declared.option.Option.the-variants.{Some};
 ghost use Rattle.disk.specs.Faults.{diskNumber, diskLayer, diskPlace};
 ghost use Rattle.disk.specs.Meaning.{Blocks, refusal};
 ghost use Rattle.disk.specs.Above.{handedOn};
+ghost use Rattle.disk.specs.Order.{RefusalOrder};
 use crate::BLOCK;
 
 // The layer that refuses.
@@ -54,6 +55,13 @@ impl DiskFault {
             DiskFault::Beyond(block) | DiskFault::Length(block) | DiskFault::Dead(block) => block,
         }
     }
+}
+
+// How many refusals a disk has. They are numbered in the order of its tests.
+pub fn refusals_in_order() -> u32
+    ensures { λ r. ⌜ RefusalOrder r ⌝ }
+{
+    3
 }
 
 // Whether a disk of `count` blocks has this block and a buffer of `len` bytes holds one.

@@ -8,6 +8,8 @@ mod fault;
 mod marked;
 mod pair;
 mod plain;
+#[cfg(test)]
+mod tests;
 mod window;
 
 pub use fault::DiskFault;
@@ -16,6 +18,7 @@ pub use fault::DiskFaultPartialEq;
 pub use fault::Layer;
 pub use fault::LayerDebug;
 pub use fault::LayerPartialEq;
+pub use fault::refusals_in_order;
 pub use marked::MarkedCard;
 pub use marked::MarkedCardDisk;
 pub use pair::Pair;
