@@ -11,8 +11,8 @@ use Rattle.std.proofs.shelf.Tests.{lt-leb}
 use Rattle.disk.specs.declared.fault.DiskFault.{DiskFault}
 use Rattle.disk.specs.declared.fault.DiskFault.the-variants.{Length, Dead}
 use Rattle.disk.specs.Tests.{unless}
-use Rattle.disk.specs.Meaning.{Blocks, Block, block, isLive, refusal, answered, bytesOr, filled, written, oneMore, counted}
-use Rattle.disk.specs.Above.{naming, handedOn}
+use Rattle.disk.specs.Meaning.{Blocks, Block, block, isLive, refusal, answered, bytesOr, oneMore}
+use Rattle.disk.specs.Above.{naming, handedOn, Carries}
 use Rattle.disk.proofs.Disks.{unless-under}
 
 -- block b of the disk above is block a of the disk d below
@@ -43,25 +43,16 @@ module _ {above : Blocks → Blocks} {d : Blocks} {a b : ℕ} (k : Shows above d
   refusal-above : (n : ℕ) → refusal (above d) b n ≡ renamed b (refusal d a n)
   refusal-above n = rw (lt-leb (length (above d)) b (k .inAbove), lt-leb (length d) a (k .inBelow), k .same) (renamed-tests (not (eqb n 512)) (block d a) a b)
 
-  pub answer-above : (n : ℕ) → handedOn b (answered (refusal d a n)) ≡ answered (refusal (above d) b n)
-  answer-above n = answered-renamed b (refusal d a n) ∙ sym (ap answered (refusal-above n))
-
   pub unless-above : {A : Type 0} (n : ℕ) (x y : A) → unless (refusal d a n) x y ≡ unless (refusal (above d) b n) x y
   unless-above n x y = sym (ap (λ f. unless f x y) (refusal-above n) ∙ unless-renamed b (refusal d a n) x y)
 
-  under-above : {A B : Type 0} (f : A → B) (n : ℕ) (x y : A) → f (unless (refusal d a n) x y) ≡ unless (refusal (above d) b n) (f x) (f y)
-  under-above f n x y = unless-under f (refusal d a n) x y ∙ unless-above n (f x) (f y)
+  under-above : {A B : Type 0} (f : A → B) (n : ℕ) (x y : A) (z : B) → f x ≡ z → f (unless (refusal d a n) x y) ≡ unless (refusal (above d) b n) z (f y)
+  under-above f n x y z e = unless-under f (refusal d a n) x y ∙ unless-above n (f x) (f y) ∙ ap (λ v. unless (refusal (above d) b n) v (f y)) e
 
-  pub filled-above : (buf : List ℕ) → filled d a buf ≡ filled (above d) b buf
-  filled-above buf = unless-above (length buf) (bytesOr (block d a) []) buf ∙ ap (λ x. unless (refusal (above d) b (length buf)) (bytesOr x []) buf) (sym (k .same))
-
-  pub written-above : (bs : List ℕ) → above (written d a bs) ≡ written (above d) b bs
-  written-above bs = under-above above (length bs) (set d a (Some bs)) d ∙ ap (λ x. unless (refusal (above d) b (length bs)) x (above d)) (k .sets (Some bs))
-
-  -- where `count` makes the count above of the one below
-  pub counted-above : (count : ℕ → ℕ) (n m : ℕ) → count (oneMore m) ≡ oneMore (count m) → count (counted d a n m) ≡ counted (above d) b n (count m)
-  counted-above count n m e = under-above count n (oneMore m) m ∙ ap (λ x. unless (refusal (above d) b n) x (count m)) e
-
--- a block that has one number in both
-pub answer-same : {above : Blocks → Blocks} {d : Blocks} {b : ℕ} → Shows above d b b → (n : ℕ) → answered (refusal d b n) ≡ answered (refusal (above d) b n)
-answer-same {above} {d} {b} k n = rw (lt-leb (length (above d)) b (k .inAbove), lt-leb (length d) b (k .inBelow), k .same)
+  pub carries : (count : ℕ → ℕ) (m : ℕ) (buf : List ℕ) → count (oneMore m) ≡ oneMore (count m) → Carries above count d m a b buf
+  carries count m buf more = record {
+    answer = answered-renamed b (refusal d a (length buf)) ∙ sym (ap answered (refusal-above (length buf)));
+    reads = unless-above (length buf) _ buf ∙ ap (λ x. unless (refusal (above d) b (length buf)) (bytesOr x []) buf) (sym (k .same));
+    blocks = under-above above (length buf) (set d a (Some buf)) d _ (k .sets (Some buf));
+    writes = under-above count (length buf) (oneMore m) m _ more;
+  }

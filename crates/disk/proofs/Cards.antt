@@ -2,50 +2,35 @@
 use mathlib.Core.Path.{_≡_, refl, sym, ap, subst, _∙_}
 use mathlib.Core.List.{List, [], _++_}
 use mathlib.Core.Bool.{Bool, true, false, cond}
-use Prim.Native.Nat.{ℕ, _+_, _-_, _*_, _≤_}
+use Prim.Native.Nat.{ℕ, _+_, _*_, _<_, _≤_}
 use native.Mathlib.Omega.{arith}
 use lib.Dec.{eqb, lit<, lit≤}
 use lib.ListN.{length, getD, take, drop, set}
-use borrow.Rule.Slice.PartMut.{putMid}
 use Rattle.std.specs.declared.option.Option.the-variants.{Some, None}
-use Rattle.std.specs.declared.result.Result.the-variants.{Ok}
 use Rattle.std.proofs.shelf.Lists.{append-nil, drop-all, take-at, take-take, getD-take, getD-drop, getD-append-right, length-take-le}
 use Rattle.std.proofs.shelf.Tests.{eq-eqb, ne-eqb, cond-true, cond-false}
-use Rattle.disk.specs.Meaning.{Block, Whole, bytesOr, refusal, answered, filled, written, counted, oneMore}
-use Rattle.disk.specs.Runs.{cell, cellBlocks, cellWritten, overlaid, Lies}
+use Rattle.disk.specs.Meaning.{Block, Whole, bytesOr}
+use Rattle.disk.specs.Runs.{cell, cellBlocks, Lies}
 use Rattle.disk.specs.Plain.{plainBlocks}
 use Rattle.disk.specs.Marked.{markedBlock, markedBlocks}
 use Rattle.disk.proofs.Disks.{refusal-inside, unless-none}
-use Rattle.disk.proofs.Cells.{whole-cells, cells-overlaid, overlaid-is}
+use Rattle.disk.proofs.Cells.{whole-cells, block-cells, cells-overlaid, cell-within}
 
--- a granted call on either card
-module _ {w b at : ℕ} {told : List ℕ → Block} {bs : List ℕ} (new : List ℕ) (k : Lies w told bs b (length new) at) where
-  lies-granted : refusal (cellBlocks w told bs) b (length new) ≡ None
-  lies-granted = refusal-inside (cellBlocks w told bs) b (length new) _ (k .inside) (k .full) (k .shows)
-
-  pub lies-ok : Ok tt ≡ answered (refusal (cellBlocks w told bs) b (length new))
-  lies-ok = sym (ap answered lies-granted)
-
-  pub lies-counted : (m : ℕ) → oneMore m ≡ counted (cellBlocks w told bs) b (length new) m
-  lies-counted m = sym (unless-none _ _ lies-granted)
-
-  pub lies-filled : {last : List ℕ} → last ≡ take (at + 512 - at) (drop at bs) → last ≡ filled (cellBlocks w told bs) b new
-  lies-filled e =
-      let n : at + 512 - at ≡ 512 = omega arith in
-      e ∙ ap (λ m. take m (drop at bs)) n ∙ sym (unless-none _ _ lies-granted ∙ ap (λ x. bytesOr x []) (k .shows))
-
-  pub lies-bytes : {last : List ℕ} → last ≡ new → putMid at (at + 512 - at) bs last ≡ cellWritten w told bs b new
-  lies-bytes e =
-      let n : length new ≡ at + 512 - at = omega (arith, k .full) in
-      ap (putMid at (at + 512 - at) bs) e ∙ sym (overlaid-is bs at (at + 512 - at) new n) ∙ ap (λ (i : ℕ). overlaid bs i new) (k .begins) ∙ sym (unless-none _ _ lies-granted)
-
-  -- given that a live cell stays live
-  pub lies-blocks : {after : List ℕ} → told (new ++ drop (length new) (cell w bs b)) ≡ Some new → length new ≤ w → after ≡ cellWritten w told bs b new → cellBlocks w told after ≡ written (cellBlocks w told bs) b new
-  lies-blocks live l e =
-      ap (cellBlocks w told) (e ∙ unless-none _ _ lies-granted) ∙
-      cells-overlaid w told bs b (k .inside) new l ∙
-      ap (set (cellBlocks w told bs) b) live ∙
-      sym (unless-none _ _ lies-granted)
+-- a live cell that stays live under a write
+pub lies : (w : ℕ) (told : List ℕ → Block) (bs : List ℕ) (b : ℕ) (buf : List ℕ) → b < length (cellBlocks w told bs) → length buf ≡ 512 → 512 ≤ w → told (cell w bs b) ≡ Some (take 512 (drop (w * b) bs)) → told (buf ++ drop (length buf) (cell w bs b)) ≡ Some buf → Lies w told bs b buf (w * b)
+lies w told bs b buf h full wide live stays =
+    let d = cellBlocks w told bs in
+    let shows = block-cells w told bs b h ∙ live in
+    let g = refusal-inside d b (length buf) _ h full shows in
+    record {
+      within = cell-within w told bs b h;
+      room = wide;
+      full = full;
+      granted = g;
+      reads = sym (unless-none _ _ g ∙ ap (λ x. bytesOr x []) shows);
+      writes = sym (unless-none _ _ g);
+      blocks = cells-overlaid w told bs b h buf (omega arith) ∙ ap (set d b) stays ∙ sym (unless-none _ _ g);
+    }
 
 pub whole-plain : (bs : List ℕ) → Whole (plainBlocks bs)
 whole-plain bs = whole-cells 512 Some bs (λ c new l e. let q : c ≡ new = cc in subst (λ (x : List ℕ). length x ≡ 512) q l)

@@ -1,13 +1,18 @@
 -- The pair: the blocks of a first disk and then those of a second, no more than a disk may have.
+use mathlib.Core.Path.{_≡_}
 use mathlib.Core.List.{List, _++_}
 use mathlib.Core.Bool.{cond}
 use Prim.Native.Nat.{ℕ, _+_, _-_, _%_, _^_}
 use lib.Dec.{ltb}
 use lib.ListN.{length, take, set}
 use Rattle.std.specs.declared.option.Option.the-variants.{Some}
+use Rattle.disk.specs.declared.fault.DiskFault.the-variants.{Beyond}
 use Rattle.disk.specs.declared.pair.Pair.{Pair}
+use Rattle.disk.specs.declared.pair.Place.{Place}
+use Rattle.disk.specs.declared.pair.Place.the-variants.{First, Second, Neither}
 use Rattle.disk.specs.Tests.{unless}
-use Rattle.disk.specs.Meaning.{Blocks, mostBlocks, refusal, oneMore}
+use Rattle.disk.specs.Meaning.{Blocks, mostBlocks, refusal, written, oneMore, counted}
+use Rattle.disk.specs.Above.{Carries}
 
 unfoldable pub pairBlocks : Blocks → Blocks → Blocks
 pairBlocks d e = take mostBlocks (d ++ e)
@@ -28,16 +33,16 @@ onFirst d e b n new old = cond (ltb b (length d)) (unless (refusal (pairBlocks d
 abbrev pub onSecond : {X : Type 0} → Blocks → Blocks → ℕ → ℕ → X → X → X
 onSecond d e b n new old = cond (ltb b (length d)) old (unless (refusal (pairBlocks d e) b n) new old)
 
--- the blocks of each
-abbrev pub firstWritten : Blocks → Blocks → ℕ → List ℕ → Blocks
-firstWritten d e b bs = onFirst d e b (length bs) (set d b (Some bs)) d
+-- the disks d and e, which have granted m and w writes, are d′ and e′ with m′ and w′ writes after a write of these bytes to the pair's block b,
+-- granted or refused
+pub record Sides (d e : Blocks) (m w b : ℕ) (bs : List ℕ) (d′ e′ : Blocks) (m′ w′ : ℕ) : Type 0 where
+  pub first : d′ ≡ onFirst d e b (length bs) (set d b (Some bs)) d
+  pub second : e′ ≡ onSecond d e b (length bs) (set e (b - length d) (Some bs)) e
+  pub firstWrites : m′ ≡ onFirst d e b (length bs) (oneMore m) m
+  pub secondWrites : w′ ≡ onSecond d e b (length bs) (oneMore w) w
 
-abbrev pub secondWritten : Blocks → Blocks → ℕ → List ℕ → Blocks
-secondWritten d e b bs = onSecond d e b (length bs) (set e (b - length d) (Some bs)) e
-
--- the count of writes of each
-abbrev pub firstCounted : Blocks → Blocks → ℕ → ℕ → ℕ → ℕ
-firstCounted d e b n writes = onFirst d e b n (oneMore writes) writes
-
-abbrev pub secondCounted : Blocks → Blocks → ℕ → ℕ → ℕ → ℕ
-secondCounted d e b n writes = onSecond d e b n (oneMore writes) writes
+-- where the pair's block b lies, for a buffer that holds these bytes
+abbrev pub Placed : Blocks → Blocks → ℕ → ℕ → ℕ → List ℕ → Place → Type 0
+Placed d e m w b buf (First a) = Carries (λ x. pairBlocks x e) (λ x. pairWrites x w) d m a b buf × Sides d e m w b buf (written d a buf) e (counted d a (length buf) m) w
+Placed d e m w b buf (Second a) = Carries (pairBlocks d) (pairWrites m) e w a b buf × Sides d e m w b buf d (written e a buf) m (counted e a (length buf) w)
+Placed d e m w b buf Neither = refusal (pairBlocks d e) b (length buf) ≡ Some (Beyond b)

@@ -1,15 +1,15 @@
 -- Disks that lie in a run of bytes, which is cut into cells of one width, a block to a cell.
 use mathlib.Core.Path.{_≡_}
 use mathlib.Core.List.{List, map, _++_}
-use Prim.Native.Nat.{ℕ, _+_, _*_, _/_, _<_, _≤_, min}
+use Prim.Native.Nat.{ℕ, _+_, _*_, _/_, _≤_, min}
 use lib.ListN.{length, take, drop}
 use Rattle.std.specs.Iters.{counting}
-use Rattle.std.specs.declared.option.Option.the-variants.{Some}
+use Rattle.std.specs.declared.option.Option.the-variants.{Some, None}
 use Rattle.std.specs.declared.result.Result.{Result}
 use Rattle.std.specs.declared.result.Result.the-variants.{Ok, Err}
 use Rattle.disk.specs.declared.fault.DiskFault.{DiskFault}
 use Rattle.disk.specs.Tests.{unless}
-use Rattle.disk.specs.Meaning.{Block, Blocks, block, blockSize, mostBlocks, refusal}
+use Rattle.disk.specs.Meaning.{Block, Blocks, blockSize, mostBlocks, refusal, filled, written}
 
 -- how many cells of w bytes lie in n bytes, no more than a disk may have blocks
 abbrev pub fitting : ℕ → ℕ → ℕ
@@ -31,15 +31,17 @@ overlaid bs at new = take at bs ++ (new ++ drop (at + length new) bs)
 abbrev pub cellWritten : ℕ → (List ℕ → Block) → List ℕ → ℕ → List ℕ → List ℕ
 cellWritten w told bs b new = unless (refusal (cellBlocks w told bs) b (length new)) (overlaid bs (w * b) new) bs
 
--- block b, live, lies from `at` on, and a buffer of n bytes holds it
-pub record Lies (w : ℕ) (told : List ℕ → Block) (bs : List ℕ) (b n at : ℕ) : Type 0 where
-  pub inside : b < length (cellBlocks w told bs)
-  pub full : n ≡ blockSize
-  pub begins : at ≡ w * b
-  pub within : at + blockSize ≤ length bs
-  pub shows : block (cellBlocks w told bs) b ≡ Some (take blockSize (drop at bs))
+-- block b, live, lies from `at` on, and may be read into these bytes or written from them: what each then does
+pub record Lies (w : ℕ) (told : List ℕ → Block) (bs : List ℕ) (b : ℕ) (buf : List ℕ) (at : ℕ) : Type 0 where
+  pub within : at + w ≤ length bs
+  pub room : blockSize ≤ w
+  pub full : length buf ≡ blockSize
+  pub granted : refusal (cellBlocks w told bs) b (length buf) ≡ None
+  pub reads : take blockSize (drop at bs) ≡ filled (cellBlocks w told bs) b buf
+  pub writes : overlaid bs at buf ≡ cellWritten w told bs b buf
+  pub blocks : cellBlocks w told (overlaid bs at buf) ≡ written (cellBlocks w told bs) b buf
 
--- where block b lies for a buffer of n bytes, or why it may be neither read nor written
-abbrev pub Located : ℕ → (List ℕ → Block) → List ℕ → ℕ → ℕ → Result ℕ DiskFault → Type 0
-Located w told bs b n (Ok at) = Lies w told bs b n at
-Located w told bs b n (Err f) = refusal (cellBlocks w told bs) b n ≡ Some f
+-- where block b lies for a buffer that holds these bytes, or why it may be neither read nor written
+abbrev pub Located : ℕ → (List ℕ → Block) → List ℕ → ℕ → List ℕ → Result ℕ DiskFault → Type 0
+Located w told bs b buf (Ok at) = Lies w told bs b buf at
+Located w told bs b buf (Err f) = refusal (cellBlocks w told bs) b (length buf) ≡ Some f

@@ -1,14 +1,8 @@
 // Faults: every refusal has a number, a layer and a place.
 ghost use mathlib.Core.Path.{_≡_};
-ghost use Prim.Native.Nat.{_<_};
-ghost use lib.ListN.{length};
-ghost use Rattle.std.specs.declared.result.Result.the-variants.{Ok, Err};
-ghost use Rattle.std.specs.declared.option.Option.the-variants.{Some};
 ghost use Rattle.disk.specs.Faults.{diskNumber, diskLayer, diskPlace};
-ghost use Rattle.disk.specs.Meaning.{Blocks, refusal};
 ghost use Rattle.disk.specs.Above.{handedOn};
 ghost use Rattle.disk.specs.Order.{RefusalOrder};
-use crate::BLOCK;
 
 // The layer that refuses.
 #[derive(Clone, Copy, Debug, PartialEq)]
@@ -62,19 +56,6 @@ pub fn refusals_in_order() -> u32
     ensures { λ r. ⌜ RefusalOrder r ⌝ }
 {
     3
-}
-
-// Whether a disk of `count` blocks has this block and a buffer of `len` bytes holds one.
-pub(crate) fn within(block: u32, count: u32, len: usize) -> Result<(), DiskFault>
-    ensures { λ r. ⌜ elim r [ Ok x ↦ (block < count) × (len ≡ 512) | Err f ↦ ((d : Blocks) → count ≡ length d → refusal d block len ≡ Some f) ] ⌝ }
-{
-    if block >= count {
-        return Err(DiskFault::Beyond(block));
-    }
-    if len != BLOCK {
-        return Err(DiskFault::Length(block));
-    }
-    Ok(())
 }
 
 // The answer of a disk below, with the fault naming the block that was named above it.

@@ -8,6 +8,7 @@ mod fault;
 mod marked;
 mod pair;
 mod plain;
+mod runs;
 #[cfg(test)]
 mod tests;
 mod window;

@@ -1,15 +1,18 @@
 // The marked card.
 ghost use mathlib.Core.Path.{_≡_};
+ghost use Prim.Native.Nat.{min};
 ghost use lib.ListN.{length};
 ghost use denote.Ref.{name};
-ghost use Rattle.disk.specs.Meaning.{refusal, answered, written, counted};
+ghost use Rattle.disk.specs.Meaning.{Whole, mostBlocks, refusal, answered, written, counted};
 ghost use Rattle.disk.specs.Runs.{Located};
 ghost use Rattle.disk.specs.Marked.{markedBytes, markedSize, markedBlock, markedBlocks, markedWritten};
 use crate::BLOCK;
 use crate::Disk;
 use crate::DiskFault;
 use crate::MOST_BLOCKS;
-use crate::fault::within;
+use crate::runs::lay;
+use crate::runs::wear;
+use crate::runs::within;
 
 // How many bytes a cell has: a block's and its mark.
 const CELL: usize = 513;
@@ -40,11 +43,19 @@ impl<'a> MarkedCard<'a> {
         self.writes
     }
 
-    // Where a block begins, for a buffer of `len` bytes.
-    fn locate(&self, block: u32, len: usize) -> Result<usize, DiskFault>
-        ensures { λ r. ⌜ Located markedSize markedBlock (markedBytes (now (self .entry))) block len r ⌝ }
+    // How many blocks fit into the bytes.
+    fn cells(&self) -> usize
+        ensures count { λ r. ⌜ min r mostBlocks ≡ length (markedBlocks (markedBytes (now (self .entry)))) ⌝ }
+        ensures whole { λ r. ⌜ Whole (markedBlocks (markedBytes (now (self .entry)))) ⌝ }
     {
-        within(block, self.count(), len)?;
+        self.bytes.len() / CELL
+    }
+
+    // Where a block begins that may be read into this buffer or written from it.
+    fn locate(&self, block: u32, buf: &[u8]) -> Result<usize, DiskFault>
+        ensures { λ r. ⌜ Located markedSize markedBlock (markedBytes (now (self .entry))) block (now (buf .entry)) r ⌝ }
+    {
+        within(block, self.count(), buf.len())?;
         let at = CELL * block as usize;
         if self.bytes[at + BLOCK] != LIVE {
             return Err(DiskFault::Dead(block));
@@ -59,11 +70,11 @@ pub impl<'a> Disk for MarkedCard<'a> as MarkedCardDisk {
     ghost writes = { λ s. s .writes };
 
     fn count(&self) -> u32 {
-        (self.bytes.len() / CELL).min(MOST_BLOCKS) as u32
+        self.cells().min(MOST_BLOCKS) as u32
     }
 
     fn read(&self, block: u32, buf: &mut [u8]) -> Result<(), DiskFault> {
-        let at = self.locate(block, buf.len())?;
+        let at = self.locate(block, buf)?;
         buf.copy_from_slice(&self.bytes[at..at + BLOCK]);
         Ok(())
     }
@@ -75,9 +86,9 @@ pub impl<'a> Disk for MarkedCard<'a> as MarkedCardDisk {
         ensures bytes { λ r. ⌜ markedBytes (now (self .exit)) ≡ markedWritten (markedBytes (now (self .entry))) block (now (buf .entry)) ⌝ }
         ensures lender { λ r. ⌜ name (now (self .exit) .bytes) ≡ name (now (self .entry) .bytes) ⌝ }
     {
-        let at = self.locate(block, buf.len())?;
-        self.bytes[at..at + BLOCK].copy_from_slice(buf);
-        self.writes = self.writes.wrapping_add(1);
+        let at = self.locate(block, buf)?;
+        lay(self.bytes, at, buf);
+        wear(&mut self.writes);
         Ok(())
     }
 }

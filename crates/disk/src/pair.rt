@@ -1,8 +1,9 @@
 // Two disks, one after the other.
 ghost use mathlib.Core.Path.{_≡_};
+ghost use Prim.Native.Nat.{_+_, _≤_, min};
 ghost use lib.ListN.{length};
-ghost use Rattle.disk.specs.Meaning.{refusal, answered, written, counted};
-ghost use Rattle.disk.specs.Pair.{paired, pairWrites, firstWritten, secondWritten, firstCounted, secondCounted};
+ghost use Rattle.disk.specs.Meaning.{Whole, refusal, answered, written, counted};
+ghost use Rattle.disk.specs.Pair.{paired, pairWrites, Sides, Placed};
 use crate::Disk;
 use crate::DiskFault;
 use crate::MOST_BLOCKS;
@@ -12,6 +13,14 @@ use crate::fault::handed_on;
 pub struct Pair<F: Disk, S: Disk> {
     first: F,
     second: S,
+}
+
+// Where a block of a pair lies: a block of one disk, or of neither.
+#[derive(Clone, Copy)]
+enum Place {
+    First(u32),
+    Second(u32),
+    Neither,
 }
 
 impl<F: Disk, S: Disk> Pair<F, S> {
@@ -28,6 +37,29 @@ impl<F: Disk, S: Disk> Pair<F, S> {
         let Pair { first, second } = self;
         (first, second)
     }
+
+    // How many blocks each disk has.
+    fn counts(&self) -> (u32, u32)
+        ensures first { λ r. ⌜ r .0 ≡ length (F·Disk .blocks (now (self .entry) .first)) ⌝ ∗ ⌜ r .0 ≤ 65536 ⌝ }
+        ensures second { λ r. ⌜ r .1 ≡ length (S·Disk .blocks (now (self .entry) .second)) ⌝ ∗ ⌜ r .1 ≤ 65536 ⌝ }
+        ensures both { λ r. ⌜ min (r .0 + r .1) 65536 ≡ length (paired (F·Disk .blocks) (S·Disk .blocks) (now (self .entry))) ⌝ }
+        ensures whole { λ r. ⌜ Whole (paired (F·Disk .blocks) (S·Disk .blocks) (now (self .entry))) ⌝ }
+    {
+        (self.first.count(), self.second.count())
+    }
+
+    fn locate(&self, block: u32, buf: &[u8]) -> Place
+        ensures { λ r. ⌜ Placed (F·Disk .blocks (now (self .entry) .first)) (S·Disk .blocks (now (self .entry) .second)) (F·Disk .writes (now (self .entry) .first)) (S·Disk .writes (now (self .entry) .second)) block (now (buf .entry)) r ⌝ }
+    {
+        let (first, _) = self.counts();
+        if block >= self.count() {
+            Place::Neither
+        } else if block < first {
+            Place::First(block)
+        } else {
+            Place::Second(block - first)
+        }
+    }
 }
 
 pub impl<F: Disk, S: Disk> Disk for Pair<F, S> as PairDisk {
@@ -36,17 +68,15 @@ pub impl<F: Disk, S: Disk> Disk for Pair<F, S> as PairDisk {
     ghost writes = { λ s. pairWrites (F·Disk .writes (s .first)) (S·Disk .writes (s .second)) };
 
     fn count(&self) -> u32 {
-        (self.first.count() + self.second.count()).min(MOST_BLOCKS as u32)
+        let (first, second) = self.counts();
+        (first + second).min(MOST_BLOCKS as u32)
     }
 
     fn read(&self, block: u32, buf: &mut [u8]) -> Result<(), DiskFault> {
-        let split = self.first.count();
-        if block >= self.count() {
-            Err(DiskFault::Beyond(block))
-        } else if block < split {
-            self.first.read(block, buf)
-        } else {
-            handed_on(self.second.read(block - split, buf), block)
+        match self.locate(block, buf) {
+            Place::First(at) => handed_on(self.first.read(at, buf), block),
+            Place::Second(at) => handed_on(self.second.read(at, buf), block),
+            Place::Neither => Err(DiskFault::Beyond(block)),
         }
     }
 
@@ -54,18 +84,12 @@ pub impl<F: Disk, S: Disk> Disk for Pair<F, S> as PairDisk {
         ensures answer { λ r. ⌜ r ≡ answered (refusal (paired (F·Disk .blocks) (S·Disk .blocks) (now (self .entry))) block (length (now (buf .entry)))) ⌝ }
         ensures blocks { λ r. ⌜ paired (F·Disk .blocks) (S·Disk .blocks) (now (self .exit)) ≡ written (paired (F·Disk .blocks) (S·Disk .blocks) (now (self .entry))) block (now (buf .entry)) ⌝ }
         ensures writes { λ r. ⌜ pairWrites (F·Disk .writes (now (self .exit) .first)) (S·Disk .writes (now (self .exit) .second)) ≡ counted (paired (F·Disk .blocks) (S·Disk .blocks) (now (self .entry))) block (length (now (buf .entry))) (pairWrites (F·Disk .writes (now (self .entry) .first)) (S·Disk .writes (now (self .entry) .second))) ⌝ }
-        ensures first { λ r. ⌜ F·Disk .blocks (now (self .exit) .first) ≡ firstWritten (F·Disk .blocks (now (self .entry) .first)) (S·Disk .blocks (now (self .entry) .second)) block (now (buf .entry)) ⌝ }
-        ensures first_writes { λ r. ⌜ F·Disk .writes (now (self .exit) .first) ≡ firstCounted (F·Disk .blocks (now (self .entry) .first)) (S·Disk .blocks (now (self .entry) .second)) block (length (now (buf .entry))) (F·Disk .writes (now (self .entry) .first)) ⌝ }
-        ensures second { λ r. ⌜ S·Disk .blocks (now (self .exit) .second) ≡ secondWritten (F·Disk .blocks (now (self .entry) .first)) (S·Disk .blocks (now (self .entry) .second)) block (now (buf .entry)) ⌝ }
-        ensures second_writes { λ r. ⌜ S·Disk .writes (now (self .exit) .second) ≡ secondCounted (F·Disk .blocks (now (self .entry) .first)) (S·Disk .blocks (now (self .entry) .second)) block (length (now (buf .entry))) (S·Disk .writes (now (self .entry) .second)) ⌝ }
+        ensures sides { λ r. ⌜ Sides (F·Disk .blocks (now (self .entry) .first)) (S·Disk .blocks (now (self .entry) .second)) (F·Disk .writes (now (self .entry) .first)) (S·Disk .writes (now (self .entry) .second)) block (now (buf .entry)) (F·Disk .blocks (now (self .exit) .first)) (S·Disk .blocks (now (self .exit) .second)) (F·Disk .writes (now (self .exit) .first)) (S·Disk .writes (now (self .exit) .second)) ⌝ }
     {
-        let split = self.first.count();
-        if block >= self.count() {
-            Err(DiskFault::Beyond(block))
-        } else if block < split {
-            self.first.write(block, buf)
-        } else {
-            handed_on(self.second.write(block - split, buf), block)
+        match self.locate(block, buf) {
+            Place::First(at) => handed_on(self.first.write(at, buf), block),
+            Place::Second(at) => handed_on(self.second.write(at, buf), block),
+            Place::Neither => Err(DiskFault::Beyond(block)),
         }
     }
 }
