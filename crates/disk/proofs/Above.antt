@@ -12,8 +12,8 @@ use Rattle.disk.specs.declared.fault.DiskFault.{DiskFault}
 use Rattle.disk.specs.declared.fault.DiskFault.the-variants.{Length, Dead}
 use Rattle.disk.specs.Tests.{unless}
 use Rattle.disk.specs.Meaning.{Blocks, Block, block, isLive, refusal, answered, bytesOr, oneMore}
-use Rattle.disk.specs.Above.{naming, handedOn, Carries}
-use Rattle.disk.proofs.Disks.{unless-under}
+use Rattle.disk.specs.Above.{naming, handedOn, CarriedDown}
+use Rattle.disk.proofs.Refusals.{unless-under}
 
 -- block b of the disk above is block a of the disk d below
 pub record Shows (above : Blocks → Blocks) (d : Blocks) (a b : ℕ) : Type 0 where
@@ -49,8 +49,8 @@ module _ {above : Blocks → Blocks} {d : Blocks} {a b : ℕ} (k : Shows above d
   under-above : {A B : Type 0} (f : A → B) (n : ℕ) (x y : A) (z : B) → f x ≡ z → f (unless (refusal d a n) x y) ≡ unless (refusal (above d) b n) z (f y)
   under-above f n x y z e = unless-under f (refusal d a n) x y ∙ unless-above n (f x) (f y) ∙ ap (λ v. unless (refusal (above d) b n) v (f y)) e
 
-  pub carries : (count : ℕ → ℕ) (m : ℕ) (buf : List ℕ) → count (oneMore m) ≡ oneMore (count m) → Carries above count d m a b buf
-  carries count m buf more = record {
+  pub carried-down : (count : ℕ → ℕ) (m : ℕ) (buf : List ℕ) → count (oneMore m) ≡ oneMore (count m) → CarriedDown above count d m a b buf
+  carried-down count m buf more = record {
     answer = answered-renamed b (refusal d a (length buf)) ∙ sym (ap answered (refusal-above (length buf)));
     reads = unless-above (length buf) _ buf ∙ ap (λ x. unless (refusal (above d) b (length buf)) (bytesOr x []) buf) (sym (k .same));
     blocks = under-above above (length buf) (set d a (Some buf)) d _ (k .sets (Some buf));

@@ -10,18 +10,18 @@ use Rattle.std.specs.declared.option.Option.the-variants.{Some, None}
 use Rattle.std.proofs.shelf.Lists.{append-nil, drop-all, take-at, take-take, getD-take, getD-drop, getD-append-right, length-take-le}
 use Rattle.std.proofs.shelf.Tests.{eq-eqb, ne-eqb, cond-true, cond-false}
 use Rattle.disk.specs.Meaning.{Block, Whole, bytesOr}
-use Rattle.disk.specs.Runs.{cell, cellBlocks, Lies}
+use Rattle.disk.specs.Runs.{cellBytes, cellBlocks, LiveCell}
 use Rattle.disk.specs.Plain.{plainBlocks}
 use Rattle.disk.specs.Marked.{markedBlock, markedBlocks}
-use Rattle.disk.proofs.Disks.{refusal-inside, unless-none}
+use Rattle.disk.proofs.Refusals.{granted, unless-none}
 use Rattle.disk.proofs.Cells.{whole-cells, block-cells, cells-overlaid, cell-within}
 
 -- a live cell that stays live under a write
-pub lies : (w : ℕ) (told : List ℕ → Block) (bs : List ℕ) (b : ℕ) (buf : List ℕ) → b < length (cellBlocks w told bs) → length buf ≡ 512 → 512 ≤ w → told (cell w bs b) ≡ Some (take 512 (drop (w * b) bs)) → told (buf ++ drop (length buf) (cell w bs b)) ≡ Some buf → Lies w told bs b buf (w * b)
-lies w told bs b buf h full wide live stays =
+pub live-cell : (w : ℕ) (told : List ℕ → Block) (bs : List ℕ) (b : ℕ) (buf : List ℕ) → b < length (cellBlocks w told bs) → length buf ≡ 512 → 512 ≤ w → told (cellBytes w bs b) ≡ Some (take 512 (drop (w * b) bs)) → told (buf ++ drop (length buf) (cellBytes w bs b)) ≡ Some buf → LiveCell w told bs b buf (w * b)
+live-cell w told bs b buf h full wide live stays =
     let d = cellBlocks w told bs in
     let shows = block-cells w told bs b h ∙ live in
-    let g = refusal-inside d b (length buf) _ h full shows in
+    let g = granted d b (length buf) _ h full shows in
     record {
       within = cell-within w told bs b h;
       room = wide;
@@ -49,14 +49,14 @@ whole-marked bs = whole-cells 513 markedBlock bs (λ c new l e.
     let q : take 512 c ≡ new = cc in
     subst (λ (x : List ℕ). length x ≡ 512) q (length-take-le 512 c (omega arith)))
 
-mark-cell : (bs : List ℕ) (i : ℕ) → getD (cell 513 bs i) 512 0 ≡ getD bs (513 * i + 512) 0
+mark-cell : (bs : List ℕ) (i : ℕ) → getD (cellBytes 513 bs i) 512 0 ≡ getD bs (513 * i + 512) 0
 mark-cell bs i = getD-take 513 (drop (513 * i) bs) 512 0 (lit< tt) ∙ getD-drop (513 * i) bs 512 0
 
-pub marked-live : (bs : List ℕ) (i : ℕ) → getD bs (513 * i + 512) 0 ≡ 255 → markedBlock (cell 513 bs i) ≡ Some (take 512 (drop (513 * i) bs))
-marked-live bs i m = cond-true _ _ _ (eq-eqb (getD (cell 513 bs i) 512 0) 255 (mark-cell bs i ∙ m)) ∙ ap Some (take-take 512 513 (drop (513 * i) bs) (lit≤ tt))
+pub marked-live : (bs : List ℕ) (i : ℕ) → getD bs (513 * i + 512) 0 ≡ 255 → markedBlock (cellBytes 513 bs i) ≡ Some (take 512 (drop (513 * i) bs))
+marked-live bs i m = cond-true _ _ _ (eq-eqb (getD (cellBytes 513 bs i) 512 0) 255 (mark-cell bs i ∙ m)) ∙ ap Some (take-take 512 513 (drop (513 * i) bs) (lit≤ tt))
 
-pub marked-dead : (bs : List ℕ) (i : ℕ) → (getD bs (513 * i + 512) 0 ≡ 255 → ⊥) → markedBlock (cell 513 bs i) ≡ None
-marked-dead bs i m = cond-false _ _ _ (ne-eqb (getD (cell 513 bs i) 512 0) 255 (λ e. m (sym (mark-cell bs i) ∙ e)))
+pub marked-dead : (bs : List ℕ) (i : ℕ) → (getD bs (513 * i + 512) 0 ≡ 255 → ⊥) → markedBlock (cellBytes 513 bs i) ≡ None
+marked-dead bs i m = cond-false _ _ _ (ne-eqb (getD (cellBytes 513 bs i) 512 0) 255 (λ e. m (sym (mark-cell bs i) ∙ e)))
 
 pub marked-stays : (new c bs : List ℕ) → length new ≡ 512 → markedBlock c ≡ Some bs → markedBlock (new ++ drop (length new) c) ≡ Some new
 marked-stays new c bs l e =

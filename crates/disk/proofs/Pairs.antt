@@ -12,9 +12,9 @@ use Rattle.std.proofs.shelf.Tests.{cases-lt, cond-true, cond-false, lt-ltb, le-
 use Rattle.disk.specs.declared.pair.Place.the-variants.{First, Second}
 use Rattle.disk.specs.Tests.{unless}
 use Rattle.disk.specs.Meaning.{Blocks, refusal, Whole}
-use Rattle.disk.specs.Pair.{pairBlocks, pairWrites, Placed}
-use Rattle.disk.proofs.Disks.{whole-by}
-use Rattle.disk.proofs.Above.{Shows, carries, unless-above}
+use Rattle.disk.specs.Pair.{pairBlocks, pairWrites, PairFound}
+use Rattle.disk.proofs.Wholes.{whole-by}
+use Rattle.disk.proofs.Above.{Shows, carried-down, unless-above}
 
 pub length-pair : (d e : Blocks) → length (pairBlocks d e) ≡ min 65536 (length d + length e)
 unfolding pairBlocks
@@ -51,11 +51,11 @@ whole-pair d e first second = whole-by (pairBlocks d e) (rw length-pair (omega a
 
 -- what a call on a block of either disk does to both
 module _ (d e : Blocks) (m w b : ℕ) (buf : List ℕ) (h : b < length (pairBlocks d e)) where
-  pub placed-first : b < length d → Placed d e m w b buf (First b)
-  placed-first lt =
+  pub found-first : b < length d → PairFound d e m w b buf (First b)
+  found-first lt =
       let k = first-shows d e b h lt in
       let t = lt-ltb b (length d) lt in (
-        carries k (λ x. pairWrites x w) m buf (omega arith),
+        carried-down k (λ x. pairWrites x w) m buf (omega arith),
         record {
           first = unless-above k (length buf) _ _ ∙ sym (cond-true _ _ _ t);
           second = sym (cond-true _ _ _ t);
@@ -64,11 +64,11 @@ module _ (d e : Blocks) (m w b : ℕ) (buf : List ℕ) (h : b < length (pairBloc
         },
       )
 
-  pub placed-second : (split : ℕ) → length d ≡ split → split ≤ b → Placed d e m w b buf (Second (b - split))
-  placed-second split l ge =
+  pub found-second : (split : ℕ) → length d ≡ split → split ≤ b → PairFound d e m w b buf (Second (b - split))
+  found-second split l ge =
       let k = second-shows d e b h split l ge in
       let t = le-ltb b (length d) (omega arith) in (
-        carries k (pairWrites m) w buf (omega arith),
+        carried-down k (pairWrites m) w buf (omega arith),
         record {
           first = sym (cond-false _ _ _ t);
           second = unless-above k (length buf) _ _ ∙ ap (λ (i : ℕ). unless (refusal (pairBlocks d e) b (length buf)) (set e (b - i) (Some buf)) e) (sym l) ∙ sym (cond-false _ _ _ t);

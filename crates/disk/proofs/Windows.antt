@@ -10,7 +10,7 @@ use Rattle.std.specs.declared.option.Option.the-variants.{None}
 use Rattle.std.proofs.shelf.Tests.{le-leb, lt-leb, cases-lt}
 use Rattle.disk.specs.Meaning.{Blocks, block, Whole}
 use Rattle.disk.specs.Window.{windowBlocks}
-use Rattle.disk.proofs.Disks.{whole-by}
+use Rattle.disk.proofs.Wholes.{whole-by}
 use Rattle.disk.proofs.Above.{Shows}
 
 window-within : (d : Blocks) (first n : ℕ) → first + n ≤ length d → windowBlocks d first n ≡ take n (drop first d)

@@ -21,7 +21,7 @@ handedOn b (Err f) = Err (naming b f)
 
 -- A read or a write of block b above, with a buffer that holds these bytes, is that of block a below. The disk below has the blocks d and
 -- has granted m writes; `above` makes the blocks above of those below, and `count` the count of writes.
-pub record Carries (above : Blocks → Blocks) (count : ℕ → ℕ) (d : Blocks) (m a b : ℕ) (buf : List ℕ) : Type 0 where
+pub record CarriedDown (above : Blocks → Blocks) (count : ℕ → ℕ) (d : Blocks) (m a b : ℕ) (buf : List ℕ) : Type 0 where
   pub answer : handedOn b (answered (refusal d a (length buf))) ≡ answered (refusal (above d) b (length buf))
   pub reads : filled d a buf ≡ filled (above d) b buf
   pub blocks : above (written d a buf) ≡ written (above d) b buf

@@ -15,13 +15,13 @@ use Rattle.disk.specs.Meaning.{Block, Blocks, blockSize, mostBlocks, refusal, 
 abbrev pub fitting : ℕ → ℕ → ℕ
 fitting n w = min (n / w) mostBlocks
 
--- cell i
-abbrev pub cell : ℕ → List ℕ → ℕ → List ℕ
-cell w bs i = take w (drop (w * i) bs)
+-- the bytes of cell i
+abbrev pub cellBytes : ℕ → List ℕ → ℕ → List ℕ
+cellBytes w bs i = take w (drop (w * i) bs)
 
 -- the blocks, where `told` reads a block off its cell
 abbrev pub cellBlocks : ℕ → (List ℕ → Block) → List ℕ → Blocks
-cellBlocks w told bs = map (λ i. told (cell w bs i)) (counting 0 (fitting (length bs) w))
+cellBlocks w told bs = map (λ i. told (cellBytes w bs i)) (counting 0 (fitting (length bs) w))
 
 -- the bytes with those from `at` on replaced by the new ones
 abbrev pub overlaid : List ℕ → ℕ → List ℕ → List ℕ
@@ -32,7 +32,7 @@ abbrev pub cellWritten : ℕ → (List ℕ → Block) → List ℕ → ℕ → L
 cellWritten w told bs b new = unless (refusal (cellBlocks w told bs) b (length new)) (overlaid bs (w * b) new) bs
 
 -- block b, live, lies from `at` on, and may be read into these bytes or written from them: what each then does
-pub record Lies (w : ℕ) (told : List ℕ → Block) (bs : List ℕ) (b : ℕ) (buf : List ℕ) (at : ℕ) : Type 0 where
+pub record LiveCell (w : ℕ) (told : List ℕ → Block) (bs : List ℕ) (b : ℕ) (buf : List ℕ) (at : ℕ) : Type 0 where
   pub within : at + w ≤ length bs
   pub room : blockSize ≤ w
   pub full : length buf ≡ blockSize
@@ -42,6 +42,6 @@ pub record Lies (w : ℕ) (told : List ℕ → Block) (bs : List ℕ) (b : ℕ) 
   pub blocks : cellBlocks w told (overlaid bs at buf) ≡ written (cellBlocks w told bs) b buf
 
 -- where block b lies for a buffer that holds these bytes, or why it may be neither read nor written
-abbrev pub Located : ℕ → (List ℕ → Block) → List ℕ → ℕ → List ℕ → Result ℕ DiskFault → Type 0
-Located w told bs b buf (Ok at) = Lies w told bs b buf at
-Located w told bs b buf (Err f) = refusal (cellBlocks w told bs) b (length buf) ≡ Some f
+abbrev pub CellFound : ℕ → (List ℕ → Block) → List ℕ → ℕ → List ℕ → Result ℕ DiskFault → Type 0
+CellFound w told bs b buf (Ok at) = LiveCell w told bs b buf at
+CellFound w told bs b buf (Err f) = refusal (cellBlocks w told bs) b (length buf) ≡ Some f

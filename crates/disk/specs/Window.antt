@@ -12,7 +12,7 @@ use Rattle.disk.specs.declared.fault.DiskFault.{DiskFault}
 use Rattle.disk.specs.declared.window.Window.{Window}
 use Rattle.disk.specs.Tests.{unless}
 use Rattle.disk.specs.Meaning.{Blocks, refusal, written}
-use Rattle.disk.specs.Above.{Carries}
+use Rattle.disk.specs.Above.{CarriedDown}
 
 abbrev pub windowBlocks : Blocks → ℕ → ℕ → Blocks
 windowBlocks d first n = cond (leb (first + n) (length d)) (take n (drop first d)) []
@@ -27,6 +27,6 @@ belowWritten d first n b bs = unless (refusal (windowBlocks d first n) b (length
 
 -- which block of a disk below is the window's block b, for a buffer that holds these bytes, or why the window refuses it; the disk below has
 -- granted m writes
-abbrev pub Through : Blocks → ℕ → ℕ → ℕ → ℕ → List ℕ → Result ℕ DiskFault → Type 0
-Through d m first n b buf (Ok a) = Carries (λ x. windowBlocks x first n) (λ x. x) d m a b buf × (written d a buf ≡ belowWritten d first n b buf)
-Through d m first n b buf (Err f) = refusal (windowBlocks d first n) b (length buf) ≡ Some f
+abbrev pub WindowFound : Blocks → ℕ → ℕ → ℕ → ℕ → List ℕ → Result ℕ DiskFault → Type 0
+WindowFound d m first n b buf (Ok a) = CarriedDown (λ x. windowBlocks x first n) (λ x. x) d m a b buf × (written d a buf ≡ belowWritten d first n b buf)
+WindowFound d m first n b buf (Err f) = refusal (windowBlocks d first n) b (length buf) ≡ Some f

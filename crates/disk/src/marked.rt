@@ -4,7 +4,7 @@ ghost use Prim.Native.Nat.{min};
 ghost use lib.ListN.{length};
 ghost use denote.Ref.{name};
 ghost use Rattle.disk.specs.Meaning.{Whole, mostBlocks, refusal, answered, written, counted};
-ghost use Rattle.disk.specs.Runs.{Located};
+ghost use Rattle.disk.specs.Runs.{CellFound};
 ghost use Rattle.disk.specs.Marked.{markedBytes, markedSize, markedBlock, markedBlocks, markedWritten};
 use crate::BLOCK;
 use crate::Disk;
@@ -53,7 +53,7 @@ impl<'a> MarkedCard<'a> {
 
     // Where a block begins that may be read into this buffer or written from it.
     fn locate(&self, block: u32, buf: &[u8]) -> Result<usize, DiskFault>
-        ensures { λ r. ⌜ Located markedSize markedBlock (markedBytes (now (self .entry))) block (now (buf .entry)) r ⌝ }
+        ensures { λ r. ⌜ CellFound markedSize markedBlock (markedBytes (now (self .entry))) block (now (buf .entry)) r ⌝ }
     {
         within(block, self.count(), buf.len())?;
         let at = CELL * block as usize;

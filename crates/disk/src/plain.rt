@@ -5,7 +5,7 @@ ghost use lib.ListN.{length};
 ghost use denote.Ref.{name};
 ghost use Rattle.std.specs.declared.option.Option.the-variants.{Some};
 ghost use Rattle.disk.specs.Meaning.{Whole, mostBlocks, refusal, answered, written, counted, blockSize};
-ghost use Rattle.disk.specs.Runs.{Located};
+ghost use Rattle.disk.specs.Runs.{CellFound};
 ghost use Rattle.disk.specs.Plain.{bytesOf, plainBlocks, plainWritten};
 use crate::BLOCK;
 use crate::Disk;
@@ -48,7 +48,7 @@ impl<'a> PlainCard<'a> {
 
     // Where a block begins that may be read into this buffer or written from it.
     fn locate(&self, block: u32, buf: &[u8]) -> Result<usize, DiskFault>
-        ensures { λ r. ⌜ Located blockSize Some (bytesOf (now (self .entry))) block (now (buf .entry)) r ⌝ }
+        ensures { λ r. ⌜ CellFound blockSize Some (bytesOf (now (self .entry))) block (now (buf .entry)) r ⌝ }
     {
         within(block, self.count(), buf.len())?;
         Ok(BLOCK * block as usize)

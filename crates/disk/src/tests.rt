@@ -91,7 +91,7 @@ fn the_first_refusal_that_applies_is_answered() -> Result<(), Fail> {
 }
 
 #[test]
-fn a_write_reaches_its_own_bytes() -> Result<(), Fail> {
+fn a_write_reaches_its_bytes_and_no_others() -> Result<(), Fail> {
     let mut plain = [7; 1030];
     let mut marked = [255; 1030];
     marked[512] = 254;
@@ -101,6 +101,9 @@ fn a_write_reaches_its_own_bytes() -> Result<(), Fail> {
     check_eq(window.write(1, &[3; BLOCK]), Err(DiskFault::Dead(1)))?;
     check_eq(window.write(2, &[2; BLOCK]), Ok(()))?;
     check_eq(window.write(3, &[3; BLOCK]), Err(DiskFault::Beyond(3)))?;
+    let mut buf = [0; BLOCK];
+    check_eq(window.read(2, &mut buf), Ok(()))?;
+    check_runs(&buf, &[(512, 2)])?;
     let (low, high) = window.into_disk().into_disks();
     check_eq(low.worn(), 1)?;
     check_eq(high.worn(), 1)?;

@@ -2,11 +2,10 @@ use mathlib.Core.Path.{_∙_}
 use Prim.Native.Nat.{_<_}
 use native.Mathlib.Omega.{arith}
 use lib.ListN.{length}
-use Rattle.std.specs.declared.option.Option.the-variants.{None}
 use Rattle.disk.specs.Marked.{markedBlock, markedBlocks}
-use Rattle.disk.proofs.Disks.{refusal-inside}
+use Rattle.disk.proofs.Refusals.{dead}
 use Rattle.disk.proofs.Cells.{cell-within, block-cells}
-use Rattle.disk.proofs.Cards.{lies, marked-live, marked-dead, marked-stays}
+use Rattle.disk.proofs.Cards.{live-cell, marked-live, marked-dead, marked-stays}
 use Rattle.disk.proofs.marked.MarkedCard.locate.Needs as need
 
 in-card : (c : need.In-Continue-within) → c .args .block < length (markedBlocks (c .args .self .now .bytes .now))
@@ -21,7 +20,7 @@ returns-then-self-at c =
     let b = c .args .block in
     let i = c .in-Continue-within .ensures tt in
     let h : b < length (markedBlocks bs) = omega arith in
-    refusal-inside (markedBlocks bs) b (length (c .args .buf .now)) None h (i .1) (block-cells 513 markedBlock bs b h ∙ marked-dead bs b (c .if-self-at .taken))
+    dead (markedBlocks bs) b (length (c .args .buf .now)) h (i .1) (block-cells 513 markedBlock bs b h ∙ marked-dead bs b (c .if-self-at .taken))
 
 pub returns : need.returns
 returns c =
@@ -30,4 +29,4 @@ returns c =
     let buf = c .args .buf .now in
     let i = c .in-Continue-within .ensures tt in
     let live = marked-live bs b (c .if-self-at .left) in
-    lies 513 markedBlock bs b buf (omega arith) (i .1) (omega arith) live (marked-stays buf _ _ (i .1) live)
+    live-cell 513 markedBlock bs b buf (omega arith) (i .1) (omega arith) live (marked-stays buf _ _ (i .1) live)
