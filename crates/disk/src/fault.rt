@@ -1,6 +1,8 @@
 // Faults: every refusal has a number, a layer and a place.
 ghost use mathlib.Core.Path.{_≡_};
 ghost use Rattle.disk.specs.Faults.{diskNumber, diskLayer, diskPlace};
+ghost use Rattle.disk.specs.Above.{handedOn};
+ghost use Rattle.disk.specs.Order.{RefusalOrder};
 
 // The layer that refuses.
 #[derive(Clone, Copy, Debug, PartialEq)]
@@ -46,5 +48,24 @@ impl DiskFault {
         match self {
             DiskFault::Beyond(block) | DiskFault::Length(block) | DiskFault::Dead(block) => block,
         }
+    }
+}
+
+// How many refusals a disk has. They are numbered in the order of its tests.
+pub fn refusals_in_order() -> u32
+    ensures { λ r. ⌜ RefusalOrder r ⌝ }
+{
+    3
+}
+
+// The answer of a disk below, with the fault naming the block that was named above it.
+pub(crate) fn handed_on(answer: Result<(), DiskFault>, block: u32) -> Result<(), DiskFault>
+    ensures { λ r. ⌜ r ≡ handedOn block answer ⌝ }
+{
+    match answer {
+        Ok(()) => Ok(()),
+        Err(DiskFault::Beyond(_)) => Err(DiskFault::Beyond(block)),
+        Err(DiskFault::Length(_)) => Err(DiskFault::Length(block)),
+        Err(DiskFault::Dead(_)) => Err(DiskFault::Dead(block)),
     }
 }

@@ -5,7 +5,12 @@ ghost use lib.ListN.{length};
 ghost use Rattle.disk.specs.Meaning.{Blocks, Whole, refusal, answered, filled, written, counted};
 
 mod fault;
+mod marked;
+mod pair;
 mod plain;
+mod runs;
+#[cfg(test)]
+mod tests;
 mod window;
 
 pub use fault::DiskFault;
@@ -14,6 +19,11 @@ pub use fault::DiskFaultPartialEq;
 pub use fault::Layer;
 pub use fault::LayerDebug;
 pub use fault::LayerPartialEq;
+pub use fault::refusals_in_order;
+pub use marked::MarkedCard;
+pub use marked::MarkedCardDisk;
+pub use pair::Pair;
+pub use pair::PairDisk;
 pub use plain::PlainCard;
 pub use plain::PlainCardDisk;
 pub use window::Window;

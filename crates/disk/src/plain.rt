@@ -1,14 +1,19 @@
 // The plain card.
 ghost use mathlib.Core.Path.{_≡_};
-ghost use Prim.Native.Nat.{ℕ, _+_};
+ghost use Prim.Native.Nat.{min};
 ghost use lib.ListN.{length};
 ghost use denote.Ref.{name};
-ghost use Rattle.disk.specs.Meaning.{Blocks, Whole, refusal, answered, filled, written, counted};
+ghost use Rattle.std.specs.declared.option.Option.the-variants.{Some};
+ghost use Rattle.disk.specs.Meaning.{Whole, mostBlocks, refusal, answered, written, counted, blockSize};
+ghost use Rattle.disk.specs.Runs.{CellFound};
 ghost use Rattle.disk.specs.Plain.{bytesOf, plainBlocks, plainWritten};
 use crate::BLOCK;
 use crate::Disk;
 use crate::DiskFault;
 use crate::MOST_BLOCKS;
+use crate::runs::lay;
+use crate::runs::wear;
+use crate::runs::within;
 
 #[derive(Drop)]
 pub struct PlainCard<'a> {
@@ -32,6 +37,22 @@ impl<'a> PlainCard<'a> {
     {
         self.writes
     }
+
+    // How many blocks fit into the bytes.
+    fn cells(&self) -> usize
+        ensures count { λ r. ⌜ min r mostBlocks ≡ length (plainBlocks (bytesOf (now (self .entry)))) ⌝ }
+        ensures whole { λ r. ⌜ Whole (plainBlocks (bytesOf (now (self .entry)))) ⌝ }
+    {
+        self.bytes.len() / BLOCK
+    }
+
+    // Where a block begins that may be read into this buffer or written from it.
+    fn locate(&self, block: u32, buf: &[u8]) -> Result<usize, DiskFault>
+        ensures { λ r. ⌜ CellFound blockSize Some (bytesOf (now (self .entry))) block (now (buf .entry)) r ⌝ }
+    {
+        within(block, self.count(), buf.len())?;
+        Ok(BLOCK * block as usize)
+    }
 }
 
 pub impl<'a> Disk for PlainCard<'a> as PlainCardDisk {
@@ -40,17 +61,11 @@ pub impl<'a> Disk for PlainCard<'a> as PlainCardDisk {
     ghost writes = { λ s. s .writes };
 
     fn count(&self) -> u32 {
-        (self.bytes.len() / BLOCK).min(MOST_BLOCKS) as u32
+        self.cells().min(MOST_BLOCKS) as u32
     }
 
     fn read(&self, block: u32, buf: &mut [u8]) -> Result<(), DiskFault> {
-        if block >= self.count() {
-            return Err(DiskFault::Beyond(block));
-        }
-        if buf.len() != BLOCK {
-            return Err(DiskFault::Length(block));
-        }
-        let at = BLOCK * block as usize;
+        let at = self.locate(block, buf)?;
         buf.copy_from_slice(&self.bytes[at..at + BLOCK]);
         Ok(())
     }
@@ -62,15 +77,9 @@ pub impl<'a> Disk for PlainCard<'a> as PlainCardDisk {
         ensures bytes { λ r. ⌜ bytesOf (now (self .exit)) ≡ plainWritten (bytesOf (now (self .entry))) block (now (buf .entry)) ⌝ }
         ensures lender { λ r. ⌜ name (now (self .exit) .bytes) ≡ name (now (self .entry) .bytes) ⌝ }
     {
-        if block >= self.count() {
-            return Err(DiskFault::Beyond(block));
-        }
-        if buf.len() != BLOCK {
-            return Err(DiskFault::Length(block));
-        }
-        let at = BLOCK * block as usize;
-        self.bytes[at..at + BLOCK].copy_from_slice(buf);
-        self.writes = self.writes.wrapping_add(1);
+        let at = self.locate(block, buf)?;
+        lay(self.bytes, at, buf);
+        wear(&mut self.writes);
         Ok(())
     }
 }
