@@ -7,6 +7,10 @@ ghost use Rattle.model.specs.Outcomes.{writesAfter};
 ghost use Rattle.model.specs.Journal.{shut, format as formatOutcome, opening, Format-again};
 ghost use Rattle.model.specs.Order.{Format-order, Opening-order};
 ghost use Rattle.journal.specs.View.{view, WhileOpen};
+
+#[cfg(test)]
+mod tests;
+
 use disk::Disk;
 use log::Log;
 use model::Fault;

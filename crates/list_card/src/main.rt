@@ -1,5 +1,7 @@
 // Lists a plain card: reads it from standard input, opens a journal on it, and prints what it found in six lines.
 mod lists;
+#[cfg(test)]
+mod tests;
 
 use lists::SummaryDisplay;
 use lists::listing;
