@@ -6,5 +6,4 @@ mod ring;
 mod state;
 
 pub use formatting::format;
-pub use ring::Ring;
 pub use state::Log;

@@ -9,13 +9,13 @@ use card::slot;
 use disk::BLOCK;
 
 #[derive(Clone, Copy)]
-pub struct Ring {
+pub(crate) struct Ring {
     rows: [Update; SLOTS],
 }
 
 impl Ring {
     // Blank rows.
-    pub fn new() -> Ring
+    pub(crate) fn new() -> Ring
         ensures { λ r. ⌜ r .rows ≡ replicate 62 blank ⌝ }
     {
         let row = Update {
@@ -26,14 +26,14 @@ impl Ring {
     }
 
     // The update at a position is this one.
-    pub fn put(&mut self, position: u64, update: Update)
+    pub(crate) fn put(&mut self, position: u64, update: Update)
         ensures { λ _. ⌜ now (self .exit) .rows ≡ set (now (self .entry) .rows) (slotOf position) update ⌝ }
     {
         self.rows[slot(position)] = update;
     }
 
     // The update at a position.
-    pub fn at(&self, position: u64) -> &Update
+    pub(crate) fn at(&self, position: u64) -> &Update
         ensures { λ r. ⌜ now r ≡ rowAt (now (self .entry) .rows) position ⌝ }
     {
         &self.rows[slot(position)]
