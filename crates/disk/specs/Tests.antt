@@ -1,8 +1,15 @@
 -- Refusals in order: a call has a list of tests, and the first whose condition holds gives the fault.
 use mathlib.Core.List.{List, [], _∷_}
-use mathlib.Core.Bool.{Bool, cond}
+use mathlib.Core.Bool.{Bool, true, false, cond}
 use Rattle.std.specs.declared.option.Option.{Option}
 use Rattle.std.specs.declared.option.Option.the-variants.{Some, None}
+
+-- conditions joined
+abbrev pub both : Bool → Bool → Bool
+both a b = cond a b false
+
+abbrev pub either : Bool → Bool → Bool
+either a b = cond a true b
 
 -- a condition, and the fault that is returned where it holds
 abbrev pub Test : Type 0 → Type 0
