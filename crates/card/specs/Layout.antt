@@ -1,14 +1,15 @@
 -- The card: block 0, the header, holds the end position and the home number of each slot; block 1 holds the start position; the log
 -- lies in the 62 blocks after them, and data blocks, called homes, begin at block 64.
 use mathlib.Core.Path.{_≡_}
-use mathlib.Core.List.{List, [], _++_, map}
+use mathlib.Core.List.{List, [], _∷_, _++_, map}
 use mathlib.Core.Bool.{cond}
 use Prim.Native.Nat.{ℕ, _+_, _-_, _*_, _%_, _^_, _<_}
 use lib.Dec.{eqb}
 use lib.ListN.{length, getD, replicate, drop}
 use Rattle.std.specs.Iters.{counting}
 use Rattle.std.specs.Joined.{joined}
-use Rattle.disk.specs.Meaning.{Blocks, block, bytesOr}
+use Rattle.std.specs.declared.option.Option.the-variants.{Some}
+use Rattle.disk.specs.Meaning.{Block, Blocks, block, bytesOr}
 use Rattle.card.specs.declared.Header.{Header}
 use Rattle.card.specs.declared.Update.{Update}
 use Rattle.card.specs.Bytes.{toBytes, field}
@@ -90,3 +91,16 @@ livePositions d = counting (startOn d) (endOn d - startOn d)
 
 abbrev pub liveUpdates : Blocks → List Update
 liveUpdates d = map (updateOn d) (livePositions d)
+
+-- what a block holds after updates in order: the last of its own, else what it held
+abbrev pub latest : List Update → ℕ → Block → Block
+latest [] b old = old
+latest (u ∷ us) b old = latest us b (cond (eqb (u .home) b) (Some (u .bytes)) old)
+
+-- data blocks by number
+abbrev pub Area : Type 0
+Area = ℕ → Block
+
+-- what a card shows: of each data block the bytes in the log block of the highest live position with that home, else the home's own
+abbrev pub area : Blocks → Area
+area d b = latest (liveUpdates d) b (block d b)

@@ -25,7 +25,7 @@ use Rattle.log.specs.Ring.{absent, rowAt, rowsFrom, homeOf as homeAt}
 use Rattle.log.specs.View.{view as logView}
 use Rattle.log.proofs.Opening.{opened-near}
 use Rattle.model.specs.Log.{Log, logOn}
-use Rattle.model.specs.Journal.{opening}
+use Rattle.model.specs.Journal.{View, openedWith, opening}
 use Rattle.model.proofs.Calls.{opens, opening-granted}
 use Rattle.list_card.specs.Listing.{Lives, Fields, homeOf, homesOf, rowHomes, fieldsOf, listed}
 
@@ -54,16 +54,20 @@ module _ (rows : List Update) (start : ℕ) (homes : List ℕ) where
       ap (λ (u : Update). u .home) (getD-map-counting (rowAt rows) start n k (start + k) absent lt refl)))
 
 -- the log in memory is what the card holds, so its homes are the card's
-pub homes-told : (d : Blocks) (l : Memory) → logView l ≡ logOn d → _≡_ {A = Lives} (l .start, l .end, rowHomes l) (homesOf (logOn d))
+pub homes-told : (d : Blocks) (l : Memory) → logView l ≡ logOn d → _≡_ {A = Lives} (l .start, l .end, rowHomes l) (homesOf (openedWith (logOn d)))
 homes-told d l e =
     let n : l .last - l .start ≡ l .end - l .start =
     sym (length-map-counting (rowAt (l .ring .rows)) (l .start) (l .last - l .start)) ∙ ap (λ (x : Log). length (x .updates)) e ∙
     length-map-counting (updateOn d) (startOn d) (endOn d - startOn d) ∙ sym (ap (λ (x : Log). x .end - x .start) e) in
-    ap (λ m. (l .start, l .end, map homeOf (rowsFrom (l .ring .rows) (l .start) m))) (sym n) ∙ ap homesOf e
+    ap (λ m. (l .start, l .end, map homeOf (rowsFrom (l .ring .rows) (l .start) m))) (sym n) ∙ ap (λ (x : Log). homesOf (openedWith x)) e
 
-module _ (d : Blocks) (e : ℕ) (ok : Ok e ≡ opening None d .answer) (l : Memory) (is : Some (logView l) ≡ opening None d .state) where
+abbrev logOr : Log → View → Log
+logOr l None = l
+logOr l (Some j) = j .log
+
+module _ (d : Blocks) (e : ℕ) (ok : Ok e ≡ opening None d .answer) (l : Memory) (is : Some (openedWith (logView l)) ≡ opening None d .state) where
   found : logView l ≡ logOn d
-  found = let p = ap (λ o. o .state) (opening-granted d e (sym ok) .1) in let q : Some (logView l) ≡ Some (logOn d) = is ∙ p in cc
+  found = ap (logOr (logOn d)) (is ∙ ap (λ o. o .state) (opening-granted d e (sym ok) .1))
 
   pub found-near : l .end ≤ l .start + 62
   found-near =

@@ -13,8 +13,7 @@ use Rattle.log.specs.declared.state.Log.{Log as Memory}
 use Rattle.log.specs.Ring.{rowsFrom}
 use Rattle.model.specs.declared.Fault.{Fault}
 use Rattle.model.specs.Faults.{number, place}
-use Rattle.model.specs.Log.{Log}
-use Rattle.model.specs.Journal.{View, shut, opening}
+use Rattle.model.specs.Journal.{Open, View, shut, opening}
 use Rattle.list_card.specs.declared.lists.Live.{Live}
 use Rattle.list_card.specs.declared.lists.Summary.{Summary}
 
@@ -40,8 +39,8 @@ told l = record { blocks = l .blocks; refusal = l .refusal; place = l .place; li
 abbrev pub homeOf : Update → ℕ
 homeOf u = u .home
 
-abbrev pub homesOf : Log → Lives
-homesOf l = (l .start, l .end, map homeOf (l .updates))
+abbrev pub homesOf : Open → Lives
+homesOf j = (j .log .start, j .log .end, map homeOf (j .log .updates))
 
 -- an accepted opening shows its log, a refused one its fault
 abbrev pub fieldsOf : ℕ → Result ℕ Fault → View → Fields

@@ -14,14 +14,14 @@ use Rattle.std.specs.declared.result.Result.{Result}
 use Rattle.std.specs.declared.result.Result.the-variants.{Ok, Err}
 use Rattle.std.proofs.shelf.Lists.{take-rest}
 use Rattle.std.proofs.shelf.Tests.{lt-leb, le-leb, lt-ltb, le-ltb, cases-eq}
-use Rattle.disk.specs.Tests.{Test, firstOf}
+use Rattle.disk.specs.Tests.{Test, firstOf, either}
 use Rattle.disk.specs.Meaning.{Blocks}
 use Rattle.card.specs.Bytes.{allZero}
 use Rattle.card.specs.Layout.{homesFrom, slot, logBlock, bytesOn, homeOn}
 use Rattle.model.specs.declared.LogFault.{LogFault}
 use Rattle.model.specs.declared.LogFault.the-variants.{Reserved, HomeRange}
 use Rattle.model.specs.Outcomes.{valueUnless, passed}
-use Rattle.model.specs.Log.{either, reservedTests, rangeTest}
+use Rattle.model.specs.Log.{reservedTests, rangeTest}
 use Rattle.model.proofs.Tests.{none-from, first-from}
 
 -- what was found of the reserved bytes, and the answer that goes with it

@@ -17,7 +17,7 @@ use Rattle.std.specs.declared.result.Result.the-variants.{Ok, Err}
 use Rattle.std.proofs.shelf.Tests.{ltb-false, leb-false, cases-eq}
 use Rattle.std.proofs.shelf.Lists.{append-nil}
 use Rattle.disk.specs.declared.fault.DiskFault.{DiskFault}
-use Rattle.disk.specs.Tests.{Test, firstOf}
+use Rattle.disk.specs.Tests.{Test, firstOf, either}
 use Rattle.disk.specs.Meaning.{Blocks}
 use Rattle.card.specs.declared.Header.{Header}
 use Rattle.card.specs.declared.Update.{Update}
@@ -28,7 +28,7 @@ use Rattle.model.specs.declared.LogFault.{LogFault}
 use Rattle.model.specs.declared.LogFault.the-variants.{Dead}
 use Rattle.model.specs.Outcomes.{valueUnless, passed}
 use Rattle.model.specs.Log as model
-use Rattle.model.specs.Log.{either, reservedTests, positionTests, headTests, rangeTest, lifeTest, homeTests, cardTests, openingTests, logOn}
+use Rattle.model.specs.Log.{reservedTests, positionTests, headTests, rangeTest, lifeTest, homeTests, cardTests, openingTests, logOn}
 use Rattle.model.specs.Card.{Ready}
 use Rattle.model.proofs.Tests.{value-ok, value-err, none-first, none-both, none-each, goes-on, halts, map-counting-same}
 use Rattle.log.specs.declared.open.Head.{Head}

@@ -15,10 +15,10 @@ use Rattle.card.specs.Layout.{endOn}
 use Rattle.model.specs.declared.LogFault.{LogFault}
 use Rattle.model.specs.declared.Fault.{Fault}
 use Rattle.model.specs.declared.Fault.the-variants.{Opened, Log as InLog}
-use Rattle.model.specs.Outcomes.{Outcome, refusedBy, decided, valueUnless, passed, afterWrites, writesAfter}
+use Rattle.model.specs.Outcomes.{Outcome, refusedBy, decided, answering, valueUnless, passed, afterWrites, writesAfter}
 use Rattle.model.specs.Log as model
 use Rattle.model.specs.Log.{cardTests, openingTests, logOn, formatted}
-use Rattle.model.specs.Journal.{View, format, openTests, opening}
+use Rattle.model.specs.Journal.{View, openedWith, format, openTests, opening}
 use Rattle.model.proofs.Tests.{first-mapped, value-ok, value-err}
 
 pub mapped-none : (o : Option LogFault) → mapped InLog o ≡ None → o ≡ None
@@ -27,40 +27,40 @@ mapped-none (Some f) e = let z : _≡_ {A = ℕ} 0 1 = cc in absurd (omega arith
 
 -- ## On an open journal
 
-pub format-open : (v : View) (d : Blocks) → isSome v ≡ true → format v d ≡ refusedBy Opened v d
+pub format-open : (v : View) (d : Blocks) → isSome v ≡ true → format v d ≡ refusedBy Opened [] v d
 format-open None d e = let z : _≡_ {A = ℕ} 0 1 = cc in absurd (omega arith)
 format-open (Some l) d e = refl
 
-pub opening-open : (v : View) (d : Blocks) → isSome v ≡ true → opening v d ≡ refusedBy Opened v d
+pub opening-open : (v : View) (d : Blocks) → isSome v ≡ true → opening v d ≡ refusedBy Opened [] v d
 opening-open None d e = let z : _≡_ {A = ℕ} 0 1 = cc in absurd (omega arith)
 opening-open (Some l) d e = refl
 
 -- ## On a shut journal
 
 abbrev formats : View → Blocks → Outcome View
-formats v d = record { answer = Ok 0; wrote = 0 ∷ 1 ∷ []; state = v; disk = formatted d }
+formats v d = record { answer = Ok 0; wrote = 0 ∷ 1 ∷ []; buffer = []; state = v; disk = formatted d }
 
 abbrev pub opens : Blocks → Outcome View
-opens d = record { answer = Ok (endOn d); wrote = []; state = Some (logOn d); disk = d }
+opens d = answering (endOn d) [] (Some (openedWith (logOn d))) d
 
-format-shut : (v : View) (d : Blocks) → isSome v ≡ false → format v d ≡ decided (mapped InLog (firstOf (cardTests d))) v d (formats v d)
-format-shut None d e = ap (λ o. decided o None d (formats None d)) (first-mapped InLog (cardTests d))
+format-shut : (v : View) (d : Blocks) → isSome v ≡ false → format v d ≡ decided (mapped InLog (firstOf (cardTests d))) [] v d (formats v d)
+format-shut None d e = ap (λ o. decided o [] None d (formats None d)) (first-mapped InLog (cardTests d))
 format-shut (Some l) d e = let z : _≡_ {A = ℕ} 0 1 = cc in absurd (omega arith)
 
-opening-shut : (v : View) (d : Blocks) → isSome v ≡ false → opening v d ≡ decided (mapped InLog (firstOf (openingTests d))) v d (opens d)
-opening-shut None d e = ap (λ o. decided o None d (opens d)) (first-mapped InLog (openingTests d))
+opening-shut : (v : View) (d : Blocks) → isSome v ≡ false → opening v d ≡ decided (mapped InLog (firstOf (openingTests d))) [] v d (opens d)
+opening-shut None d e = ap (λ o. decided o [] None d (opens d)) (first-mapped InLog (openingTests d))
 opening-shut (Some l) d e = let z : _≡_ {A = ℕ} 0 1 = cc in absurd (omega arith)
 
 module _ (v : View) (d : Blocks) (is-shut : isSome v ≡ false) where
-  told-state : (o : Option LogFault) → v ≡ decided (mapped InLog o) v d (formats v d) .state
+  told-state : (o : Option LogFault) → v ≡ decided (mapped InLog o) [] v d (formats v d) .state
   told-state None = refl
   told-state (Some f) = refl
 
-  told-disk : (o : Option LogFault) → unless o (formatted d) d ≡ decided (mapped InLog o) v d (formats v d) .disk
+  told-disk : (o : Option LogFault) → unless o (formatted d) d ≡ decided (mapped InLog o) [] v d (formats v d) .disk
   told-disk None = refl
   told-disk (Some f) = refl
 
-  told-writes : (n : ℕ) (o : Option LogFault) → unless o (afterWrites 2 n) n ≡ writesAfter (decided (mapped InLog o) v d (formats v d)) n
+  told-writes : (n : ℕ) (o : Option LogFault) → unless o (afterWrites 2 n) n ≡ writesAfter (decided (mapped InLog o) [] v d (formats v d)) n
   told-writes n None = refl
   told-writes n (Some f) = refl
 
@@ -77,26 +77,26 @@ module _ (v : View) (d : Blocks) (is-shut : isSome v ≡ false) where
   format-writes m n e = e ∙ told-writes n refusal ∙ sym (ap (λ o. writesAfter o n) (format-shut v d is-shut))
 
   pub format-ok : Ok tt ≡ passed refusal → Ok 0 ≡ format v d .answer
-  format-ok e = sym (ap (λ o. o .answer) (format-shut v d is-shut) ∙ ap (λ o. decided (mapped InLog o) v d (formats v d) .answer) (value-ok refusal tt tt e .0))
+  format-ok e = sym (ap (λ o. o .answer) (format-shut v d is-shut) ∙ ap (λ o. decided (mapped InLog o) [] v d (formats v d) .answer) (value-ok refusal tt tt e .0))
 
   pub format-err : (f : LogFault) → Err f ≡ passed refusal → Err (InLog f) ≡ format v d .answer
-  format-err f e = sym (ap (λ o. o .answer) (format-shut v d is-shut) ∙ ap (λ o. decided (mapped InLog o) v d (formats v d) .answer) (value-err refusal tt f e))
+  format-err f e = sym (ap (λ o. o .answer) (format-shut v d is-shut) ∙ ap (λ o. decided (mapped InLog o) [] v d (formats v d) .answer) (value-err refusal tt f e))
 
-  pub opening-err : (f : LogFault) → Err f ≡ valueUnless (firstOf (openingTests d)) (logOn d) → opening v d ≡ refusedBy (InLog f) v d
-  opening-err f e = opening-shut v d is-shut ∙ ap (λ o. decided (mapped InLog o) v d (opens d)) (value-err (firstOf (openingTests d)) (logOn d) f e)
+  pub opening-err : (f : LogFault) → Err f ≡ valueUnless (firstOf (openingTests d)) (logOn d) → opening v d ≡ refusedBy (InLog f) [] v d
+  opening-err f e = opening-shut v d is-shut ∙ ap (λ o. decided (mapped InLog o) [] v d (opens d)) (value-err (firstOf (openingTests d)) (logOn d) f e)
 
-  pub opening-ok : (l : model.Log) → Ok l ≡ valueUnless (firstOf (openingTests d)) (logOn d) → opening v d ≡ record { answer = Ok (l .end); wrote = []; state = Some l; disk = d }
+  pub opening-ok : (l : model.Log) → Ok l ≡ valueUnless (firstOf (openingTests d)) (logOn d) → opening v d ≡ answering (l .end) [] (Some (openedWith l)) d
   opening-ok l e =
       let o = value-ok (firstOf (openingTests d)) (logOn d) l e in
-      opening-shut v d is-shut ∙ ap (λ x. decided (mapped InLog x) v d (opens d)) (o .0) ∙
-      sym (ap (λ (x : model.Log). record { answer = Ok (x .end); wrote = []; state = Some x; disk = d }) (o .1))
+      opening-shut v d is-shut ∙ ap (λ x. decided (mapped InLog x) [] v d (opens d)) (o .0) ∙
+      sym (ap (λ (x : model.Log). answering (x .end) [] (Some (openedWith x)) d) (o .1))
 
 -- an opening that was granted
-granted-none : (o : Option Fault) (v : View) (d : Blocks) (e : ℕ) → decided o v d (opens d) .answer ≡ Ok e → o ≡ None
+granted-none : (o : Option Fault) (v : View) (d : Blocks) (e : ℕ) → decided o [] v d (opens d) .answer ≡ Ok e → o ≡ None
 granted-none None v d e p = refl
 granted-none (Some f) v d e p = let z : _≡_ {A = ℕ} 0 1 = cc in absurd (omega arith)
 
 pub opening-granted : (d : Blocks) (e : ℕ) → opening None d .answer ≡ Ok e → (firstOf (openingTests d) ≡ None) × (opening None d ≡ opens d)
 opening-granted d e p =
     let o = granted-none (firstOf (openTests None d)) None d e p in
-    (mapped-none (firstOf (openingTests d)) (sym (first-mapped InLog (openingTests d)) ∙ o), ap (λ x. decided x None d (opens d)) o)
+    (mapped-none (firstOf (openingTests d)) (sym (first-mapped InLog (openingTests d)) ∙ o), ap (λ x. decided x [] None d (opens d)) o)

@@ -30,12 +30,12 @@ formatted-is d r =
     ready-written (set d 0 (Some zeros)) (ready-set d 0 zeros r (omega arith)) 1 (omega arith) zeros refl
 
 -- the outcome on a card that format takes
-pub format-granted : (d : Blocks) → Ready d → format shut d ≡ record { answer = Ok 0; wrote = 0 ∷ 1 ∷ []; state = shut; disk = formatted d }
-format-granted d r = ap (λ o. decided o shut d (record { answer = Ok 0; wrote = 0 ∷ 1 ∷ []; state = shut; disk = formatted d })) (first-mapped InLog (cardTests d) ∙ ap (mapped InLog) (ready-card d r))
+pub format-granted : (d : Blocks) → Ready d → format shut d ≡ record { answer = Ok 0; wrote = 0 ∷ 1 ∷ []; buffer = []; state = shut; disk = formatted d }
+format-granted d r = ap (λ o. decided o [] shut d (record { answer = Ok 0; wrote = 0 ∷ 1 ∷ []; buffer = []; state = shut; disk = formatted d })) (first-mapped InLog (cardTests d) ∙ ap (mapped InLog) (ready-card d r))
 
 -- formatted once more
 again : (d left : Blocks) → Ready d → Ready left → formatted left ≡ formatted d → format shut left ≡ format shut d
-again d left r s e = format-granted left s ∙ ap (λ x. record { answer = Ok 0; wrote = 0 ∷ 1 ∷ []; state = shut; disk = x }) e ∙ sym (format-granted d r)
+again d left r s e = format-granted left s ∙ ap (λ x. record { answer = Ok 0; wrote = 0 ∷ 1 ∷ []; buffer = []; state = shut; disk = x }) e ∙ sym (format-granted d r)
 
 pub format-again : (d : Blocks) → Ready d → Format-again d
 format-again d r left cut =

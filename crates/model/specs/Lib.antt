@@ -2,5 +2,11 @@ pub mod Faults
 pub mod Outcomes
 pub mod Card
 pub mod Log
+pub mod Steps
+pub mod Operations
 pub mod Journal
+pub mod Calls
 pub mod Order
+pub mod Record
+pub mod Sound
+pub mod Law

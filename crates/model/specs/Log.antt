@@ -1,14 +1,14 @@
 -- The log of an open journal, and what format and opening test of a card and leave.
 use mathlib.Core.List.{List, [], _∷_, _++_, map}
-use mathlib.Core.Bool.{Bool, true, not, cond}
-use Prim.Native.Nat.{ℕ, _-_}
+use mathlib.Core.Bool.{not}
+use Prim.Native.Nat.{ℕ, _+_, _-_}
 use lib.Dec.{leb, ltb}
 use lib.ListN.{length, drop, replicate}
 use Rattle.std.specs.Iters.{counting}
 use Rattle.std.specs.declared.option.Option.{Option}
 use Rattle.std.specs.declared.option.Option.the-variants.{None}
 use Rattle.disk.specs.declared.fault.DiskFault.the-variants.{Dead as DeadBlock}
-use Rattle.disk.specs.Tests.{Test}
+use Rattle.disk.specs.Tests.{Test, either}
 use Rattle.disk.specs.Meaning.{Blocks, block, isLive, written, blockSize}
 use Rattle.card.specs.declared.Update.{Update}
 use Rattle.card.specs.Bytes.{allZero}
@@ -28,8 +28,8 @@ pub record Log : Type 0 where
   pub logging : Option Round
   pub installing : Option Round
 
-abbrev pub either : Bool → Bool → Bool
-either a b = cond a true b
+abbrev pub last : Log → ℕ
+last l = l .start + length (l .updates)
 
 -- ## What is tested of a card, in order
 

@@ -2,12 +2,15 @@
 ghost use mathlib.Core.Path.{_≡_};
 ghost use Rattle.model.specs.Faults.{number, layer, place, logNumber, logPlace, logCause, cause};
 ghost use Rattle.model.specs.declared.LogFault.the-variants.{Dead};
-ghost use Rattle.model.specs.declared.Fault.the-variants.{Log as InLog};
+ghost use Rattle.model.specs.declared.Fault.the-variants.{Log as InLog, Object as InObject};
 use card::HOMES_FROM;
 use disk::DiskFault;
 use disk::DiskFaultDebug;
 use disk::DiskFaultPartialEq;
 use disk::Layer;
+use object::ObjectFault;
+use object::ObjectFaultDebug;
+use object::ObjectFaultPartialEq;
 
 // Why the log refuses. A dead block carries the disk's own fault.
 #[derive(Clone, Copy, Debug, PartialEq)]
@@ -22,14 +25,25 @@ pub enum LogFault {
     Positions,
     // the home number of the position in this log block is no data block
     HomeRange(u32),
+    // a commit would need more slots than the log has
+    Full,
+    // a commit would need a position above the highest
+    Exhausted,
 }
 
 // Why the journal refuses.
 #[derive(Clone, Copy, Debug, PartialEq)]
 pub enum Fault {
+    // the journal is shut
+    Shut,
     // the journal is open already
     Opened,
+    // no operation has this number, or one is open under it
+    Number,
+    // no operation is open under the ticket's number
+    Ticket,
     Log(LogFault),
+    Object(ObjectFault),
 }
 
 pub impl From<DiskFault> for LogFault as LogFaultFromDisk {
@@ -37,6 +51,14 @@ pub impl From<DiskFault> for LogFault as LogFaultFromDisk {
 
     fn from(fault: DiskFault) -> LogFault {
         LogFault::Dead(fault)
+    }
+}
+
+pub impl From<ObjectFault> for Fault as FaultFromObject {
+    ghost converts = { λ e r. r ≡ InObject e };
+
+    fn from(fault: ObjectFault) -> Fault {
+        Fault::Object(fault)
     }
 }
 
@@ -59,6 +81,8 @@ impl LogFault {
             LogFault::Reserved(_) => 8,
             LogFault::Positions => 9,
             LogFault::HomeRange(_) => 10,
+            LogFault::Full => 21,
+            LogFault::Exhausted => 22,
         }
     }
 
@@ -66,7 +90,7 @@ impl LogFault {
         ensures { λ r. ⌜ r ≡ logPlace self ⌝ }
     {
         match self {
-            LogFault::Small | LogFault::Positions => 0,
+            LogFault::Small | LogFault::Positions | LogFault::Full | LogFault::Exhausted => 0,
             LogFault::Dead(fault) => fault.place(),
             LogFault::Reserved(block) | LogFault::HomeRange(block) => block,
         }
@@ -88,8 +112,12 @@ impl Fault {
         ensures { λ r. ⌜ r ≡ number self ⌝ }
     {
         match self {
+            Fault::Shut => 4,
             Fault::Opened => 5,
+            Fault::Number => 12,
+            Fault::Ticket => 13,
             Fault::Log(fault) => fault.number(),
+            Fault::Object(fault) => fault.number(),
         }
     }
 
@@ -97,8 +125,9 @@ impl Fault {
         ensures { λ r. ⌜ r ≡ layer self ⌝ }
     {
         match self {
-            Fault::Opened => Layer::Operation,
             Fault::Log(_) => Layer::Log,
+            Fault::Object(_) => Layer::Object,
+            _ => Layer::Operation,
         }
     }
 
@@ -107,8 +136,9 @@ impl Fault {
         ensures { λ r. ⌜ r ≡ place self ⌝ }
     {
         match self {
-            Fault::Opened => 0,
             Fault::Log(fault) => fault.place(),
+            Fault::Object(fault) => fault.place(),
+            _ => 0,
         }
     }
 
@@ -117,8 +147,9 @@ impl Fault {
         ensures { λ r. ⌜ r ≡ cause self ⌝ }
     {
         match self {
-            Fault::Opened => None,
             Fault::Log(fault) => fault.cause(),
+            Fault::Object(fault) => fault.cause(),
+            _ => None,
         }
     }
 }
