@@ -21,7 +21,7 @@ use Rattle.model.specs.Card.{Ready}
 use Rattle.model.specs.Log.{sizeTests, deadTest, cardTests}
 use Rattle.model.proofs.Tests.{past, none-first, none-from, none-each}
 
-not-false : (b : Bool) → not b ≡ false → b ≡ true
+pub not-false : (b : Bool) → not b ≡ false → b ≡ true
 not-false true e = refl
 not-false false e = sym e
 

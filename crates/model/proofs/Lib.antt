@@ -3,3 +3,4 @@ pub mod Order
 pub mod Card
 pub mod Format
 pub mod Calls
+pub mod Opening

@@ -32,53 +32,6 @@ withOperation j n o = record { log = j .log; operations = set (j .operations) n 
 abbrev pub withLog : Open → Log → Open
 withLog j l = record { log = l; operations = j .operations }
 
--- ## Operations
-
-abbrev pub numberTests : Open → ℕ → List (Test Fault)
-numberTests j n = (either (leb mostOperations n) (isSome (operation j n)), Number) ∷ []
-
-abbrev pub ticketTests : Open → ℕ → List (Test Fault)
-ticketTests j n = (not (isSome (operation j n)), Ticket) ∷ []
-
-abbrev pub begin : ℕ → Open → Blocks → Outcome Open
-begin n j d = decided (firstOf (numberTests j n)) [] j d (answering n [] (withOperation j n (Some [])) d)
-
--- the held value, else what the newest bytes have
-abbrev pub seen : Open → Blocks → ℕ → Place → List ℕ
-seen j d n o = valueOr (valueIn (heldBy j n) o) (part o (bytesOr (newest (j .log) d (o .block)) []))
-
--- the object's value is in hand, in the log or at home
-abbrev pub known : Open → Blocks → ℕ → Place → Bool
-known j d n o = either (isIn (heldBy j n) o) (isSome (newest (j .log) d (o .block)))
-
-abbrev pub readTests : ℕ → Place → List ℕ → Open → Blocks → List (Test Fault)
-readTests n o buffer j d = ticketTests j n ++ (placeTests d o (length buffer) ++ tableTests (heldBy j n) (known j d n o) o)
-
-abbrev pub read : ℕ → Place → List ℕ → Open → Blocks → Outcome Open
-read n o buffer j d = decided (firstOf (readTests n o buffer j d)) buffer j d
-    (answering (width (o .size)) (seen j d n o)
-    (cond (isIn (heldBy j n) o) j (withOperation j n (Some (holding (heldBy j n) (record { place = o; bytes = seen j d n o; dirty = false }))))) d)
-
-abbrev pub overwriteTests : ℕ → Place → List ℕ → Open → Blocks → List (Test Fault)
-overwriteTests n o bytes j d = ticketTests j n ++ (placeTests d o (length bytes) ++ (bitTests o bytes ++ tableTests (heldBy j n) (known j d n o) o))
-
-abbrev pub overwrite : ℕ → Place → List ℕ → Open → Blocks → Outcome Open
-overwrite n o bytes j d = decided (firstOf (overwriteTests n o bytes j d)) bytes j d
-    (answering (width (o .size)) bytes (withOperation j n (Some (holding (heldBy j n) (record { place = o; bytes = bytes; dirty = true })))) d)
-
--- the last tests come into play in no run: an object is held only of a live block
-abbrev pub commitTests : ℕ → Open → Blocks → List (Test Fault)
-commitTests n j d = ticketTests j n ++ (roomTests (j .log) (committed (heldBy j n) (j .log) d) ++ bytesTests (j .log) d (dirtyBlocks (heldBy j n) []))
-
-abbrev pub commit : ℕ → Open → Blocks → Outcome Open
-commit n j d =
-    let us = committed (heldBy j n) (j .log) d in
-    decided (firstOf (commitTests n j d)) [] j d
-    (answering (j .log .start + length us) [] (withOperation (withLog j (withUpdates (j .log) us)) n None) d)
-
-abbrev pub giveUp : ℕ → Open → Blocks → Outcome Open
-giveUp n j d = decided (firstOf (ticketTests j n)) [] j d (answering 0 [] (withOperation j n None) d)
-
 -- ## Calls as values
 
 pub data Call : Type 0 where
@@ -91,6 +44,7 @@ pub data Call : Type 0 where
   logs : Call
   installs : Call
 
+-- the caller's buffer, as it is handed over
 abbrev pub bufferOf : Call → List ℕ
 bufferOf (begins n) = []
 bufferOf (reads n o buffer) = buffer
@@ -101,15 +55,56 @@ bufferOf flushes = []
 bufferOf logs = []
 bufferOf installs = []
 
+-- ## What each tests, in order
+
+abbrev pub ticketTests : Open → ℕ → List (Test Fault)
+ticketTests j n = (not (isSome (operation j n)), Ticket) ∷ []
+
+-- the object's value is in hand, in the log or at home
+abbrev pub known : Open → Blocks → ℕ → Place → Bool
+known j d n o = either (isIn (heldBy j n) o) (isSome (newest (j .log) d (o .block)))
+
+-- the last tests of a commit come into play in no run: an object is held only of a live block
+abbrev pub testsOf : Call → Open → Blocks → List (Test Fault)
+testsOf (begins n) j d = (either (leb mostOperations n) (isSome (operation j n)), Number) ∷ []
+testsOf (reads n o buffer) j d = ticketTests j n ++ (placeTests d o (length buffer) ++ tableTests (heldBy j n) (known j d n o) o)
+testsOf (overwrites n o bytes) j d = ticketTests j n ++ (placeTests d o (length bytes) ++ (bitTests o bytes ++ tableTests (heldBy j n) (known j d n o) o))
+testsOf (commits n) j d = ticketTests j n ++ (roomTests (j .log) (committed (heldBy j n) (j .log) d) ++ bytesTests (j .log) d (dirtyBlocks (heldBy j n) []))
+testsOf (givesUp n) j d = ticketTests j n
+testsOf flushes j d = []
+testsOf logs j d = []
+testsOf installs j d = []
+
+-- ## What each does once it is granted
+
+-- the held value, else what the newest bytes have
+abbrev pub seen : Open → Blocks → ℕ → Place → List ℕ
+seen j d n o = valueOr (valueIn (heldBy j n) o) (part o (bytesOr (newest (j .log) d (o .block)) []))
+
+-- operation n has this entry for its object
+abbrev pub holds : Open → ℕ → Held → Open
+holds j n h = withOperation j n (Some (holding (heldBy j n) h))
+
+abbrev pub reading : ℕ → Place → Open → Blocks → Outcome Open
+reading n o j d = let v = seen j d n o in
+    answering (width (o .size)) v (cond (isIn (heldBy j n) o) j (holds j n (record { place = o; bytes = v; dirty = false }))) d
+
+abbrev pub committing : ℕ → Open → Blocks → Outcome Open
+committing n j d = let us = committed (heldBy j n) (j .log) d in
+    answering (j .log .start + length us) [] (withOperation (withLog j (withUpdates (j .log) us)) n None) d
+
+abbrev pub grants : Call → Open → Blocks → Outcome Open
+grants (begins n) j d = answering n [] (withOperation j n (Some [])) d
+grants (reads n o buffer) j d = reading n o j d
+grants (overwrites n o bytes) j d = answering (width (o .size)) bytes (holds j n (record { place = o; bytes = bytes; dirty = true })) d
+grants (commits n) j d = committing n j d
+grants (givesUp n) j d = answering 0 [] (withOperation j n None) d
+grants flushes j d = within (withLog j) (flush (j .log) d)
+grants logs j d = within (withLog j) (logStep (j .log) d)
+grants installs j d = within (withLog j) (installStep (j .log) d)
+
 abbrev pub called : Call → Open → Blocks → Outcome Open
-called (begins n) j d = begin n j d
-called (reads n o buffer) j d = read n o buffer j d
-called (overwrites n o bytes) j d = overwrite n o bytes j d
-called (commits n) j d = commit n j d
-called (givesUp n) j d = giveUp n j d
-called flushes j d = within (withLog j) (flush (j .log) d)
-called logs j d = within (withLog j) (logStep (j .log) d)
-called installs j d = within (withLog j) (installStep (j .log) d)
+called c j d = decided (firstOf (testsOf c j d)) (bufferOf c) j d (grants c j d)
 
 -- a shut journal refuses every call
 abbrev pub outcome : Call → View → Blocks → Outcome View

@@ -7,12 +7,12 @@ use lib.ListN.{length, getD}
 use Rattle.std.specs.declared.result.Result.the-variants.{Ok}
 use Rattle.disk.specs.Meaning.{Blocks, block, isLive, Whole}
 use Rattle.card.specs.Layout.{slots, homesFrom, highest, slot, endOn, startOn, homeOn, bytesOn}
+use Rattle.model.specs.Card.{Ready}
 use Rattle.model.specs.Journal.{shut, opening}
 
 -- a card that an opening takes
 pub record Sound (d : Blocks) : Type 0 where
-  pub large : homesFrom < length d
-  pub alive : (b : ℕ) → b < homesFrom → isLive (block d b) ≡ true
+  pub ready : Ready d
   pub zeros-end : (i : ℕ) → 256 ≤ i → i < 512 → getD (bytesOn d 0) i 0 ≡ 0
   pub zeros-start : (i : ℕ) → 8 ≤ i → i < 512 → getD (bytesOn d 1) i 0 ≡ 0
   pub order : startOn d ≤ endOn d
