@@ -4,3 +4,5 @@ pub mod Card
 pub mod Format
 pub mod Calls
 pub mod Opening
+pub mod Latest
+pub mod Blocks
