@@ -6,3 +6,6 @@ pub mod Calls
 pub mod Opening
 pub mod Latest
 pub mod Blocks
+pub mod Invariant
+pub mod Logger
+pub mod Homes
