@@ -9,3 +9,4 @@ pub mod Blocks
 pub mod Invariant
 pub mod Logger
 pub mod Homes
+pub mod Installer
