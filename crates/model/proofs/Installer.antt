@@ -37,7 +37,7 @@ module _ (start end frozen : ℕ) (us : List Update) (homes : List ℕ) (d : Blo
   short : q - start < length us
   short = omega (arith, o .frozen-last, o .end-frozen, i .from, i .below)
 
-  here : Good d u
+  pub here : Good d u
   here = good (q - start) short
 
   same : (b : ℕ) → b < homesFrom → bytesOn d′ b ≡ bytesOn d b

@@ -10,3 +10,4 @@ pub mod Invariant
 pub mod Logger
 pub mod Homes
 pub mod Installer
+pub mod Rounds

@@ -73,13 +73,13 @@ module _ (start end frozen : ℕ) (us : List Update) (homes : List ℕ) (d : Blo
   abbrev d′ : Blocks
   d′ = set d (logBlock q) (Some bytes)
 
-  here : Good d (atPosition start us q)
+  pub here : Good d (atPosition start us q)
   here = good (q - start) (omega (arith, o .frozen-last, o .start-end, g .from, g .below))
 
-  inside : logBlock q < length d
+  pub inside : logBlock q < length d
   inside = let m = log-low q in omega (arith, c .ready .large)
 
-  alive : isLive (block d (logBlock q)) ≡ true
+  pub alive : isLive (block d (logBlock q)) ≡ true
   alive = c .ready .alive (logBlock q) (log-low q)
 
   same-0 : bytesOn d′ 0 ≡ bytesOn d 0
@@ -188,7 +188,7 @@ module _ (start end frozen : ℕ) (us : List Update) (homes : List ℕ) (d : Blo
   decoded : headerIn (headerBlock header) ≡ header
   decoded = header-again header (omega (arith, o .top, o .frozen-last, g .below)) length-after (λ k l. small k)
 
-  full : length (headerBlock header) ≡ blockSize
+  pub full : length (headerBlock header) ≡ blockSize
   full = length-header header length-after
 
   large : 0 < length d
@@ -200,10 +200,17 @@ module _ (start end frozen : ℕ) (us : List Update) (homes : List ℕ) (d : Blo
   bytes-log : (p : ℕ) → bytesOn dₕ (logBlock p) ≡ bytesOn d (logBlock p)
   bytes-log p = bytes-other d 0 (headerBlock header) (logBlock p) (λ e. omega arith)
 
+  home-at : (s : ℕ) → s < slots → homeOn dₕ s ≡ getD after s 0
+  home-at s l = sym (homesIn-at (bytesOn dₕ 0) s l) ∙ ap (λ (h : Header). getD (h .homes) s 0) (ap headerIn bytes-0 ∙ decoded)
+
   home-on : (p : ℕ) → homeOn dₕ (slot p) ≡ getD after (slot p) 0
-  home-on p =
-      sym (homesIn-at (bytesOn dₕ 0) (slot p) (mod-lt p (omega arith))) ∙
-      ap (λ (h : Header). getD (h .homes) (slot p) 0) (ap headerIn bytes-0 ∙ decoded)
+  home-on p = home-at (slot p) (mod-lt p (omega arith))
+
+  -- the home numbers of slots that no position of the round has
+  pub headed-homes : (s : ℕ) → s < slots → ((p : ℕ) → end ≤ p → p < target → slot p ≡ s → ⊥) → homeOn dₕ s ≡ homeOn d s
+  headed-homes s l apart =
+      home-at s l ∙ withHomes-other homes end batch s (λ k a e. apart (end + k) (omega arith) (omega (arith, length-batch)) e) ∙
+      ap (λ (hs : List ℕ). getD hs s 0) (c .at-homes) ∙ homesIn-at (bytesOn d 0) s l
 
   -- an update of this home and these bytes
   is-update : (u : Update) (h : ℕ) (bs : List ℕ) → u .home ≡ h → u .bytes ≡ bs → u ≡ record { home = h; bytes = bs }

@@ -186,8 +186,8 @@ SameReads v d w e = (n : ℕ) (o : Place) (buffer : List ℕ) →
     (outcome (reads n o buffer) v d .buffer ≡ outcome (reads n o buffer) w e .buffer)
 
 -- the block that a logger step wrote: 0, and the end moved; or the log block of a position that is not durable
-abbrev pub LogsAt : Blocks → Record → Blocks → ℕ → Type 0
-LogsAt d r e b = ((b ≡ 0) × (endOn d < endOn e)) ⊎ ((p : ℕ) × (endOn d ≤ p) × (p < r .reached) × (b ≡ logBlock p) × (endOn e ≡ endOn d))
+abbrev pub LogsAt : Blocks → ℕ → Blocks → ℕ → Type 0
+LogsAt d reached e b = ((b ≡ 0) × (endOn d < endOn e)) ⊎ ((p : ℕ) × (endOn d ≤ p) × (p < reached) × (b ≡ logBlock p) × (endOn e ≡ endOn d))
 
 -- the block that an installer step wrote: 1, and the start moved; or the home of a live position, with its bytes
 abbrev pub InstallsAt : Blocks → Blocks → ℕ → Type 0
@@ -212,7 +212,7 @@ AfterCall (overwrites n p bytes) v d o r s = Told (overwrites n p bytes) o d r (
 AfterCall (commits n) v d o r s = Told (commits n) o d r (due r n) × ByOk (o .answer) (Fresh r n) (λ f. Unit {0})
 AfterCall (givesUp n) v d o r s = Told (givesUp n) o d r 0
 AfterCall flushes v d o r s = o .answer ≡ Ok (r .reached)
-AfterCall logs v d o r s = (o .answer ≡ Ok (endOn (o .disk))) × ByWrote (o .wrote) (endOn d ≡ r .reached) (LogsAt d r (o .disk)) × HomesKept d (o .disk) × SameReads v d (o .state) (o .disk)
+AfterCall logs v d o r s = (o .answer ≡ Ok (endOn (o .disk))) × ByWrote (o .wrote) (endOn d ≡ r .reached) (LogsAt d (r .reached) (o .disk)) × HomesKept d (o .disk) × SameReads v d (o .state) (o .disk)
 AfterCall installs v d o r s = (o .answer ≡ Ok (startOn (o .disk))) × ByWrote (o .wrote) (startOn d ≡ endOn d) (InstallsAt d (o .disk)) × SameReads v d (o .state) (o .disk)
 
 -- ## What holds of a cut

@@ -86,13 +86,22 @@ abbrev pub withHomes : List ℕ → ℕ → List Update → List ℕ
 withHomes homes p [] = homes
 withHomes homes p (u ∷ us) = withHomes (set homes (slot p) (u .home)) (p + 1) us
 
--- a logger step in round r: the next log block, or block 0 once all are written; `before` is the log as the step found it
+-- a logger's next log block; `before` is the log as the step found it
+abbrev pub logNext : Log → Log → Round → Blocks → Outcome Log
+logNext before l r d = writing before d (logBlock (r .next)) (updateAt l (r .next) .bytes) (l .end) (loggingAt l (record { next = r .next + 1; target = r .target }))
+
+-- the home numbers that block 0 has after a round: those of its positions, the others kept
+abbrev pub homesAfter : Log → Round → List ℕ
+homesAfter l r = withHomes (l .homes) (l .end) (take (r .target - l .end) (drop (l .end - l .start) (l .updates)))
+
+-- block 0, once all log blocks are written
+abbrev pub logHeader : Log → Log → Round → Blocks → Outcome Log
+logHeader before l r d = let homes = homesAfter l r in
+    writing before d 0 (headerBlock (record { end = r .target; homes = homes })) (r .target) (endedAt l (r .target) homes)
+
+-- a logger step in round r
 abbrev pub logRound : Log → Log → Round → Blocks → Outcome Log
-logRound before l r d =
-    cond (ltb (r .next) (r .target))
-    (writing before d (logBlock (r .next)) (updateAt l (r .next) .bytes) (l .end) (loggingAt l (record { next = r .next + 1; target = r .target })))
-    (let homes = withHomes (l .homes) (l .end) (take (r .target - l .end) (drop (l .end - l .start) (l .updates))) in
-    writing before d 0 (headerBlock (record { end = r .target; homes = homes })) (r .target) (endedAt l (r .target) homes))
+logRound before l r d = cond (ltb (r .next) (r .target)) (logNext before l r d) (logHeader before l r d)
 
 -- with no round running: one to frozen, else one to last, else nothing
 abbrev pub logStep : Log → Blocks → Outcome Log
@@ -103,12 +112,16 @@ logStep l d = elim (l .logging) [
       (answering (l .end) [] l d))
 ]
 
--- an installer step in round r: the next home, or block 1 once all are written
+-- an installer's next home, and block 1 once all are written
+abbrev pub installNext : Log → Round → Blocks → Outcome Log
+installNext l r d = let u = updateAt l (r .next) in
+    writing l d (u .home) (u .bytes) (l .start) (installingAt l (record { next = r .next + 1; target = r .target }))
+
+abbrev pub installStart : Log → Round → Blocks → Outcome Log
+installStart l r d = writing l d 1 (startBlock (r .target)) (r .target) (startedAt l (r .target))
+
 abbrev pub installRound : Log → Round → Blocks → Outcome Log
-installRound l r d =
-    cond (ltb (r .next) (r .target))
-    (writing l d (updateAt l (r .next) .home) (updateAt l (r .next) .bytes) (l .start) (installingAt l (record { next = r .next + 1; target = r .target })))
-    (writing l d 1 (startBlock (r .target)) (r .target) (startedAt l (r .target)))
+installRound l r d = cond (ltb (r .next) (r .target)) (installNext l r d) (installStart l r d)
 
 -- with no round running: one to end, else nothing
 abbrev pub installStep : Log → Blocks → Outcome Log
