@@ -10,7 +10,7 @@ use lib.ListN.{length, getD, take, drop}
 use Rattle.std.specs.Options.{isSome}
 use Rattle.std.specs.declared.option.Option.{Option}
 use Rattle.std.specs.declared.option.Option.the-variants.{Some, None}
-use Rattle.std.proofs.shelf.Lists.{take-append-drop, take-more}
+use Rattle.std.proofs.shelf.Lists.{take-append-drop, take-more, drop-more}
 use Rattle.std.proofs.shelf.Tests.{eq-eqb, ne-eqb, cases-eq}
 use Rattle.disk.specs.Meaning.{Block, isLive}
 use Rattle.card.specs.declared.Update.{Update}
@@ -61,3 +61,10 @@ either-some false bs x e = e
 pub latest-live : (us : List Update) (b : ℕ) (x : Block) → isSome x ≡ true → isSome (latest us b x) ≡ true
 latest-live [] b x e = e
 latest-live (u ∷ us) b x e = latest-live us b (cond (eqb (u .home) b) (Some (u .bytes)) x) (either-some (eqb (u .home) b) (u .bytes) x e)
+
+-- the same, by where that update stands
+pub latest-at : (us : List Update) (k b : ℕ) (x y : Block) → k < length us → getD us k (record { home = 0; bytes = [] }) .home ≡ b → latest us b x ≡ latest us b y
+latest-at us k b x y l e =
+    let u = getD us k (record { home = 0; bytes = [] }) in
+    let z = sym (take-append-drop k us) ∙ ap (λ (vs : List Update). take k us ++ vs) (drop-more us k (record { home = 0; bytes = [] }) l) in
+    ap (λ (vs : List Update). latest vs b x) z ∙ latest-any (take k us) (drop (k + 1) us) u b x y e ∙ sym (ap (λ (vs : List Update). latest vs b y) z)

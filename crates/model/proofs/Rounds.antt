@@ -6,11 +6,13 @@ use mathlib.Core.Logic.{_⊎_, inl, inr, ⊎-elim}
 use Prim.Native.Nat.{ℕ, _+_, _-_, _≤_, _<_}
 use native.Mathlib.Omega.{arith}
 use lib.Dec.{ltb, leb}
-use lib.ListN.{length, getD, set, take, drop}
+use lib.ListN.{length, getD, set, take, drop, length-take, length-drop}
+use lib.Seq.{getD-take, take-take}
+use Rattle.std.proofs.shelf.Lists.{drop-take}
 use Rattle.std.specs.declared.option.Option.{Option}
 use Rattle.std.specs.declared.option.Option.the-variants.{Some, None}
 use Rattle.std.specs.declared.result.Result.the-variants.{Ok}
-use Rattle.std.proofs.shelf.Tests.{cases-lt, lt-ltb, le-ltb}
+use Rattle.std.proofs.shelf.Tests.{cases-eq, cases-lt, lt-ltb, le-ltb}
 use Rattle.disk.specs.Meaning.{Block, Blocks, block, isLive, blockSize}
 use Rattle.card.specs.declared.Header.{Header}
 use Rattle.card.specs.declared.Update.{Update}
@@ -18,8 +20,10 @@ use Rattle.card.specs.Layout.{slots, homesFrom, slot, logBlock, headerBlock, st
 use Rattle.model.specs.declared.Round.{Round}
 use Rattle.model.specs.Outcomes.{Outcome, answering}
 use Rattle.model.specs.Log.{Log, last}
-use Rattle.model.specs.Steps.{updateAt, frozenAt, loggingAt, installingAt, endedAt, startedAt, withHomes, logNext, logHeader, logRound, logStep, installNext, installStart, installRound, installStep}
+use Rattle.model.specs.Steps.{updateAt, frozenAt, loggingAt, installingAt, endedAt, startedAt, withHomes, logNext, logHeader, logRound, logLast, logBy, logStep, installNext, installStart, installRound, installBy, installStep}
 use Rattle.model.specs.Law.{ByWrote, LogsAt, InstallsAt, HomesKept}
+use Rattle.model.proofs.Card.{live-bytes}
+use Rattle.model.proofs.Latest.{latest-split, latest-at}
 use Rattle.model.proofs.Blocks.{block-here, block-other, end-same, home-same, bytes-other, length-start}
 use Rattle.model.proofs.Logger as logger
 use Rattle.model.proofs.Logger.{wroteOne, writing-granted, log-low}
@@ -156,18 +160,11 @@ idle l d k over = record {
   installing = refl;
 }
 
--- with no round running
-abbrev restLast : Log → Blocks → Outcome Log
-restLast l d = cond (ltb (l .end) (last l)) (logRound l (frozenAt l (last l)) (record { next = l .end; target = last l }) d) (answering (l .end) [] l d)
-
-abbrev restStep : Log → Blocks → Outcome Log
-restStep l d = cond (ltb (l .end) (l .frozen)) (logRound l l (record { next = l .end; target = l .frozen }) d) (restLast l d)
-
-rest-done : (l : Log) (d : Blocks) → Kept l d → LogDone l d (restStep l d)
+rest-done : (l : Log) (d : Blocks) → Kept l d → LogDone l d (logBy None l d)
 rest-done l d k = ⊎-elim
-    (λ (a : l .end < l .frozen). subst (LogDone l d) (sym (ap (λ t. cond t (logRound l l (record { next = l .end; target = l .frozen }) d) (restLast l d)) (lt-ltb (l .end) (l .frozen) a)))
+    (λ (a : l .end < l .frozen). subst (LogDone l d) (sym (ap (λ t. cond t (logRound l l (record { next = l .end; target = l .frozen }) d) (logLast l d)) (lt-ltb (l .end) (l .frozen) a)))
       (round-done l l d k (record { next = l .end; target = l .frozen }) (fresh l d (l .frozen) a (omega arith))))
-    (λ (a : l .frozen ≤ l .end). subst (LogDone l d) (sym (ap (λ t. cond t (logRound l l (record { next = l .end; target = l .frozen }) d) (restLast l d)) (le-ltb (l .end) (l .frozen) a)))
+    (λ (a : l .frozen ≤ l .end). subst (LogDone l d) (sym (ap (λ t. cond t (logRound l l (record { next = l .end; target = l .frozen }) d) (logLast l d)) (le-ltb (l .end) (l .frozen) a)))
       (⊎-elim
       (λ (b : l .end < last l). let m = frozenAt l (last l) in
         subst (LogDone l d) (sym (ap (λ t. cond t (logRound l m (record { next = l .end; target = last l }) d) (answering (l .end) [] l d)) (lt-ltb (l .end) (last l) b)))
@@ -177,3 +174,129 @@ rest-done l d k = ⊎-elim
         (idle l d k b))
       (cases-lt (l .end) (last l))))
     (cases-lt (l .end) (l .frozen))
+
+log-by : (o : Option Round) (l : Log) (d : Blocks) → Kept l d → IfSome o (Logs (l .start) (l .end) (l .frozen) (l .updates) d) → LogDone l d (logBy o l d)
+log-by None l d k g = rest-done l d k
+log-by (Some r) l d k g = round-done l l d k r g
+
+pub log-done : (l : Log) (d : Blocks) → Kept l d → LogDone l d (logStep l d)
+log-done l d k = log-by (l .logging) l d k (k .logging)
+
+-- ## An installer step
+
+pub record InstallDone (l : Log) (d : Blocks) (o : Outcome Log) : Type 0 where
+  pub kept : Kept (o .state) (o .disk)
+  pub answer : o .answer ≡ Ok (o .state .start)
+  pub buffer : o .buffer ≡ []
+  pub writes : ByWrote (o .wrote) (o .disk ≡ d) (λ b. (bs : List ℕ) × (o .disk ≡ set d b (Some bs)) × (length bs ≡ blockSize) × (isLive (block d b) ≡ true))
+  pub places : ByWrote (o .wrote) (startOn d ≡ endOn d) (InstallsAt d (o .disk))
+  -- from end on, the updates up to any position show the same
+  pub shown : (q b : ℕ) → l .end ≤ q → homesFrom ≤ b → latest (take (q - o .state .start) (o .state .updates)) b (block (o .disk) b) ≡ latest (take (q - l .start) (l .updates)) b (block d b)
+  pub end : o .state .end ≡ l .end
+  pub frozen : o .state .frozen ≡ l .frozen
+  pub reach : last (o .state) ≡ last l
+  pub logging : o .state .logging ≡ l .logging
+  pub later : (p : ℕ) → l .end ≤ p → updateAt (o .state) p ≡ updateAt l p
+
+module _ (l : Log) (d : Blocks) (k : Kept l d) (r : Round) (i : Installs (l .start) (l .end) (l .updates) d r) where
+  abbrev s′ : ℕ
+  s′ = l .start
+
+  abbrev vs : List Update
+  vs = l .updates
+
+  pub install-home : r .next < r .target → InstallDone l d (installRound l r d)
+  install-home more =
+      let u = updateAt l (r .next) in
+      let e = l .end in
+      let f = l .frozen in
+      let hs = l .homes in
+      let here = installer.here s′ e f vs hs d (k .order) (k .card) (k .good) r i more in
+      let d′ = set d (u .home) (Some (u .bytes)) in
+      let to = installingAt l (record { next = r .next + 1; target = r .target }) in
+      let on = k .card .live (r .next) (i .from) (omega (arith, i .below)) in
+      let card = installer.installed-card s′ e f vs hs d (k .order) (k .card) (k .good) r i more in
+      let done : InstallDone l d (wroteOne d (u .home) (u .bytes) s′ to) = record {
+        kept = record {
+          order = k .order;
+          card = card;
+          good = installer.installed-good s′ e f vs hs d (k .order) (k .card) (k .good) r i more;
+          logging = ifSome-map (l .logging) (installer.installed-logs s′ e f vs hs d (k .order) (k .card) (k .good) r i more) (k .logging);
+          installing = installer.installed-round s′ e f vs hs d (k .order) (k .card) (k .good) r i more;
+        };
+        answer = refl;
+        buffer = refl;
+        writes = (u .bytes, refl, here .full, here .alive);
+        places = inr (r .next, omega (arith, i .from, k .card .at-start), omega (arith, i .below, k .card .at-end), ap (λ (x : Update). x .home) on,
+          block-here d (u .home) (u .bytes) (here .high) ∙ ap (λ (x : Update). Some (x .bytes)) on ∙ sym (live-bytes (block d (logBlock (r .next))) (k .card .ready .alive (logBlock (r .next)) (log-low (r .next)))),
+          sym (card .at-start) ∙ k .card .at-start);
+        shown = λ q b a h. ⊎-elim
+            (λ (same : b ≡ u .home). latest-at (take (q - s′) vs) (r .next - s′) b (block d′ b) (block d b)
+              (let m = length-take (q - s′) vs in omega (arith, i .from, i .below, k .order .end-frozen, k .order .frozen-last))
+              (ap (λ (x : Update). x .home) (getD-take (q - s′) vs (r .next - s′) absent (omega (arith, i .from, i .below))) ∙ sym same))
+            (λ ne. ap (latest (take (q - s′) vs) b) (block-other d (u .home) (u .bytes) b ne))
+            (cases-eq b (u .home));
+        end = refl;
+        frozen = refl;
+        reach = refl;
+        logging = refl;
+        later = λ p a. refl;
+      } in
+      subst (InstallDone l d) (sym (ap (λ t. cond t (installNext l r d) (installStart l r d)) (lt-ltb (r .next) (r .target) more) ∙ writing-granted l d (u .home) (u .bytes) s′ to (here .high) (here .alive) (here .full))) done
+
+  pub install-start : r .target ≤ r .next → InstallDone l d (installRound l r d)
+  install-start over =
+      let e = l .end in
+      let f = l .frozen in
+      let hs = l .homes in
+      let t = r .target in
+      let n = t - s′ in
+      let to = startedAt l t in
+      let card = installer.started-card s′ e f vs hs d (k .order) (k .card) (k .good) r i in
+      let large : 1 < length d = omega (arith, k .card .ready .large) in
+      let done : InstallDone l d (wroteOne d 1 (startBlock t) t to) = record {
+        kept = record {
+          order = installer.started-order s′ e f vs hs d (k .order) (k .card) (k .good) r i;
+          card = card;
+          good = installer.started-good s′ e f vs hs d (k .order) (k .card) (k .good) r i;
+          logging = ifSome-map (l .logging) (installer.started-logs s′ e f vs hs d (k .order) (k .card) (k .good) r i) (k .logging);
+          installing = tt;
+        };
+        answer = refl;
+        buffer = refl;
+        writes = (startBlock t, refl, length-start t, k .card .ready .alive 1 (omega arith));
+        places = inl (refl, omega (arith, i .some, k .card .at-start, card .at-start));
+        shown = λ q b a h.
+            let m = q - t in
+            let z : q - s′ ≡ n + m = omega (arith, i .from, i .upto, i .below) in
+            ap (latest (take m (drop n vs)) b) (block-other d 1 (startBlock t) b (λ w. omega arith)) ∙
+            sym (ap (λ j. latest (take j vs) b (block d b)) z ∙ latest-split n (take (n + m) vs) b (block d b) ∙
+            ap (λ (ws : List Update). latest ws b (latest (take n (take (n + m) vs)) b (block d b))) (drop-take n m vs) ∙
+            ap (latest (take m (drop n vs)) b) (ap (λ (ws : List Update). latest ws b (block d b)) (take-take n (n + m) vs (omega arith)) ∙
+            ap (λ j. latest (take j vs) b (block d b)) (let y : n ≡ r .next - s′ = omega (arith, i .upto) in y) ∙ i .home b h));
+        end = refl;
+        frozen = refl;
+        reach = (let w = length-drop n vs in omega (arith, i .from, i .upto, i .below, k .order .end-frozen, k .order .frozen-last));
+        logging = refl;
+        later = λ p a. installer.rest-at s′ e f vs hs d (k .order) (k .card) (k .good) r i p (omega (arith, i .below));
+      } in
+      subst (InstallDone l d) (sym (ap (λ t. cond t (installNext l r d) (installStart l r d)) (le-ltb (r .next) (r .target) over) ∙ writing-granted l d 1 (startBlock t) t to large (k .card .ready .alive 1 (omega arith)) (length-start t))) done
+
+install-round : (l : Log) (d : Blocks) → Kept l d → (r : Round) → Installs (l .start) (l .end) (l .updates) d r → InstallDone l d (installRound l r d)
+install-round l d k r i = ⊎-elim (install-home l d k r i) (install-start l d k r i) (cases-lt (r .next) (r .target))
+
+install-by : (o : Option Round) (l : Log) (d : Blocks) → Kept l d → IfSome o (Installs (l .start) (l .end) (l .updates) d) → InstallDone l d (installBy o l d)
+install-by (Some r) l d k i = install-round l d k r i
+install-by None l d k i =
+    let r : Round = record { next = l .start; target = l .end } in
+    ⊎-elim
+    (λ (a : l .start < l .end).
+      let i₀ : Installs (l .start) (l .end) (l .updates) d r = record { from = omega arith; upto = omega arith; some = a; below = omega arith; home = λ b h. ap (λ j. latest (take j (l .updates)) b (block d b)) (let y : l .start - l .start ≡ 0 = omega arith in y) } in
+      subst (InstallDone l d) (sym (ap (λ t. cond t (installRound l r d) (answering (l .start) [] l d)) (lt-ltb (l .start) (l .end) a))) (install-round l d k r i₀))
+    (λ (a : l .end ≤ l .start).
+      subst (InstallDone l d) (sym (ap (λ t. cond t (installRound l r d) (answering (l .start) [] l d)) (le-ltb (l .start) (l .end) a)))
+      (record { kept = k; answer = refl; buffer = refl; writes = refl; places = omega (arith, k .card .at-start, k .card .at-end, k .order .start-end); shown = λ q b x y. refl; end = refl; frozen = refl; reach = refl; logging = refl; later = λ p x. refl }))
+    (cases-lt (l .start) (l .end))
+
+pub install-done : (l : Log) (d : Blocks) → Kept l d → InstallDone l d (installStep l d)
+install-done l d k = install-by (l .installing) l d k (k .installing)

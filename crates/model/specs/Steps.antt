@@ -104,13 +104,15 @@ abbrev pub logRound : Log → Log → Round → Blocks → Outcome Log
 logRound before l r d = cond (ltb (r .next) (r .target)) (logNext before l r d) (logHeader before l r d)
 
 -- with no round running: one to frozen, else one to last, else nothing
+abbrev pub logLast : Log → Blocks → Outcome Log
+logLast l d = cond (ltb (l .end) (last l)) (logRound l (frozenAt l (last l)) (record { next = l .end; target = last l }) d) (answering (l .end) [] l d)
+
+abbrev pub logBy : Option Round → Log → Blocks → Outcome Log
+logBy (Some r) l d = logRound l l r d
+logBy None l d = cond (ltb (l .end) (l .frozen)) (logRound l l (record { next = l .end; target = l .frozen }) d) (logLast l d)
+
 abbrev pub logStep : Log → Blocks → Outcome Log
-logStep l d = elim (l .logging) [
-  | Some r ↦ logRound l l r d
-  | None ↦ cond (ltb (l .end) (l .frozen)) (logRound l l (record { next = l .end; target = l .frozen }) d)
-      (cond (ltb (l .end) (last l)) (logRound l (frozenAt l (last l)) (record { next = l .end; target = last l }) d)
-      (answering (l .end) [] l d))
-]
+logStep l d = logBy (l .logging) l d
 
 -- an installer's next home, and block 1 once all are written
 abbrev pub installNext : Log → Round → Blocks → Outcome Log
@@ -124,8 +126,9 @@ abbrev pub installRound : Log → Round → Blocks → Outcome Log
 installRound l r d = cond (ltb (r .next) (r .target)) (installNext l r d) (installStart l r d)
 
 -- with no round running: one to end, else nothing
+abbrev pub installBy : Option Round → Log → Blocks → Outcome Log
+installBy (Some r) l d = installRound l r d
+installBy None l d = cond (ltb (l .start) (l .end)) (installRound l (record { next = l .start; target = l .end }) d) (answering (l .start) [] l d)
+
 abbrev pub installStep : Log → Blocks → Outcome Log
-installStep l d = elim (l .installing) [
-  | Some r ↦ installRound l r d
-  | None ↦ cond (ltb (l .start) (l .end)) (installRound l (record { next = l .start; target = l .end }) d) (answering (l .start) [] l d)
-]
+installStep l d = installBy (l .installing) l d
