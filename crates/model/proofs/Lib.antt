@@ -4,10 +4,3 @@ pub mod Card
 pub mod Format
 pub mod Calls
 pub mod Opening
-pub mod Latest
-pub mod Blocks
-pub mod Invariant
-pub mod Logger
-pub mod Homes
-pub mod Installer
-pub mod Rounds

@@ -7,6 +7,4 @@ pub mod Operations
 pub mod Journal
 pub mod Calls
 pub mod Order
-pub mod Record
 pub mod Sound
-pub mod Law

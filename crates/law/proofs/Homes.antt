@@ -15,8 +15,8 @@ use Rattle.card.specs.declared.Update.{Update}
 use Rattle.card.specs.Bytes.{fromBytes}
 use Rattle.card.specs.Layout.{slots, slot, homeIn, homesIn}
 use Rattle.card.proofs.Slots.{slots-differ}
 use Rattle.model.specs.Steps.{withHomes}
-use Rattle.model.proofs.Invariant.{absent}
+use Rattle.law.proofs.Invariant.{absent}
 
 -- k bytes give a number below 256 ^ k
 fromBytes-lt : (k : ℕ) (bs : List ℕ) → length bs ≤ k → fromBytes bs < 256 ^ k

@@ -22,15 +22,15 @@ use Rattle.card.specs.declared.Update.{Update}
 use Rattle.card.specs.Layout.{slots, homesFrom, highest, slot, logBlock, headerEnd, headerIn, homeIn, homesIn, headerBlock, bytesOn, endOn, startOn, homeOn, updateOn, latest}
 use Rattle.card.proofs.Headers.{header-again}
 use Rattle.card.proofs.Slots.{slots-differ}
 use Rattle.model.specs.declared.Round.{Round}
 use Rattle.model.specs.Card.{Ready}
 use Rattle.model.specs.Outcomes.{Outcome, decided}
 use Rattle.model.specs.Log.{Log, last}
 use Rattle.model.specs.Steps.{updateAt, frozenAt, loggingAt, endedAt, deadFor, writing, withHomes, logRound}
 use Rattle.model.proofs.Card.{live-bytes, live-set, ready-set}
-use Rattle.model.proofs.Blocks.{block-here, block-other, bytes-here, bytes-other, whole-set, end-same, home-same, start-same, update-same, length-header, header-zeros}
-use Rattle.model.proofs.Homes.{home-small, length-homesIn, homesIn-at, length-withHomes, withHomes-other, withHomes-here, withHomes-small}
-use Rattle.model.proofs.Invariant.{absent, Good, atPosition, InOrder, OnCard, Logs, Installs, IfSome, AllGood, Kept}
+use Rattle.law.proofs.Blocks.{block-here, block-other, bytes-here, bytes-other, whole-set, end-same, home-same, start-same, update-same, length-header, header-zeros}
+use Rattle.law.proofs.Homes.{home-small, length-homesIn, homesIn-at, length-withHomes, withHomes-other, withHomes-here, withHomes-small}
+use Rattle.law.proofs.Invariant.{absent, Good, atPosition, InOrder, OnCard, Logs, Installs, IfSome, AllGood, Kept}
 
 -- ## A write that is granted
 

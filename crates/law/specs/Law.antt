@@ -18,13 +18,13 @@ use Rattle.object.specs.declared.Place.{Place}
 use Rattle.object.specs.Objects.{width}
 use Rattle.object.specs.Tables.{Held, mostHeld, valueIn, dirtyOnes}
 use Rattle.card.specs.Layout.{slots, homesFrom, highest, slot, logBlock, endOn, startOn, homeOn, bytesOn, area}
 use Rattle.model.specs.declared.Fault.{Fault}
 use Rattle.model.specs.Outcomes.{Outcome}
 use Rattle.model.specs.Log.{Log, last}
 use Rattle.model.specs.Steps.{newest}
 use Rattle.model.specs.Journal.{Open, View, shut, openedWith, mostOperations, opening}
 use Rattle.model.specs.Calls.{Call, begins, reads, overwrites, commits, givesUp, flushes, logs, installs, bufferOf, outcome}
-use Rattle.model.specs.Record.{Commit, Record, plain, layAll, touchedBy, due, noted, upTo, reopened, begun, refusals}
+use Rattle.law.specs.Record.{Commit, Record, plain, layAll, touchedBy, due, noted, upTo, reopened, begun, refusals}
 
 -- ## Events
 

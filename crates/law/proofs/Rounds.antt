@@ -17,18 +17,18 @@ use Rattle.disk.specs.Meaning.{Block, Blocks, block, isLive, blockSize}
 use Rattle.card.specs.declared.Header.{Header}
 use Rattle.card.specs.declared.Update.{Update}
 use Rattle.card.specs.Layout.{slots, homesFrom, slot, logBlock, headerBlock, startBlock, homeOn, bytesOn, endOn, startOn, latest}
 use Rattle.model.specs.declared.Round.{Round}
 use Rattle.model.specs.Outcomes.{Outcome, answering}
 use Rattle.model.specs.Log.{Log, last}
 use Rattle.model.specs.Steps.{updateAt, frozenAt, loggingAt, installingAt, endedAt, startedAt, withHomes, logNext, logHeader, logRound, logLast, logBy, logStep, installNext, installStart, installRound, installBy, installStep}
-use Rattle.model.specs.Law.{ByWrote, LogsAt, InstallsAt, HomesKept}
+use Rattle.law.specs.Law.{ByWrote, LogsAt, InstallsAt, HomesKept}
 use Rattle.model.proofs.Card.{live-bytes}
-use Rattle.model.proofs.Latest.{latest-split, latest-at}
-use Rattle.model.proofs.Blocks.{block-here, block-other, end-same, home-same, bytes-other, length-start}
-use Rattle.model.proofs.Logger as logger
-use Rattle.model.proofs.Logger.{wroteOne, writing-granted, log-low}
-use Rattle.model.proofs.Installer as installer
-use Rattle.model.proofs.Invariant.{absent, Good, atPosition, InOrder, OnCard, Logs, Installs, IfSome, AllGood, Kept}
+use Rattle.law.proofs.Latest.{latest-split, latest-at}
+use Rattle.law.proofs.Blocks.{block-here, block-other, end-same, home-same, bytes-other, length-start}
+use Rattle.law.proofs.Logger as logger
+use Rattle.law.proofs.Logger.{wroteOne, writing-granted, log-low}
+use Rattle.law.proofs.Installer as installer
+use Rattle.law.proofs.Invariant.{absent, Good, atPosition, InOrder, OnCard, Logs, Installs, IfSome, AllGood, Kept}
 
 pub ifSome-map : {P Q : Round → Type 0} (o : Option Round) → ((r : Round) → P r → Q r) → IfSome o P → IfSome o Q
 ifSome-map None f h = tt

@@ -13,13 +13,13 @@ use Rattle.std.proofs.shelf.Tests.{cases-eq}
 use Rattle.disk.specs.Meaning.{Block, Blocks, block, isLive, blockSize, Whole}
 use Rattle.card.specs.declared.Update.{Update}
 use Rattle.card.specs.Layout.{slots, homesFrom, highest, logBlock, startEnd, homesIn, startIn, startBlock, bytesOn, endOn, startOn, updateOn, latest}
 use Rattle.model.specs.declared.Round.{Round}
 use Rattle.model.specs.Card.{Ready}
 use Rattle.model.proofs.Card.{live-set, ready-set}
-use Rattle.model.proofs.Latest.{latest-here, latest-other, latest-more, latest-split}
-use Rattle.model.proofs.Blocks.{block-here, block-other, bytes-here, bytes-other, whole-set, end-same, start-same, update-same, length-start, start-zeros, start-again}
-use Rattle.model.proofs.Logger.{good-set, log-low}
-use Rattle.model.proofs.Invariant.{absent, Good, atPosition, InOrder, OnCard, Logs, Installs, AllGood}
+use Rattle.law.proofs.Latest.{latest-here, latest-other, latest-more, latest-split}
+use Rattle.law.proofs.Blocks.{block-here, block-other, bytes-here, bytes-other, whole-set, end-same, start-same, update-same, length-start, start-zeros, start-again}
+use Rattle.law.proofs.Logger.{good-set, log-low}
+use Rattle.law.proofs.Invariant.{absent, Good, atPosition, InOrder, OnCard, Logs, Installs, AllGood}
 
 -- ## A home
 
