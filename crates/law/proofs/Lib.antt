@@ -5,3 +5,4 @@ pub mod Homes
 pub mod Logger
 pub mod Installer
 pub mod Rounds
+pub mod Absorb
