@@ -6,3 +6,4 @@ pub mod Logger
 pub mod Installer
 pub mod Rounds
 pub mod Absorb
+pub mod Commits
