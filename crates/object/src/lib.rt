@@ -2,9 +2,14 @@
 ghost use mathlib.Core.Path.{_≡_};
 ghost use Rattle.object.specs.Faults.{objectNumber, objectPlace, objectCause};
 ghost use Rattle.object.specs.declared.ObjectFault.the-variants.{DeadBlock};
+
+mod laws;
+
 use disk::DiskFault;
 use disk::DiskFaultDebug;
 use disk::DiskFaultPartialEq;
+pub use laws::first_fault;
+pub use laws::held_at_most;
 
 // An object of a data block: where it is and how large, in bits.
 #[derive(Clone, Copy, Debug, PartialEq)]
