@@ -82,6 +82,21 @@ Others-kept = (o p : Place) (v bs : List ℕ) → Placed o → Placed p → o .b
 abbrev pub Apart : Type 0
 Apart = (o p : Place) → Placed o → Placed p → o .size ≡ p .size → same o p ≡ false → overlap o p ≡ false
 
+-- laying and taking, bit by bit
+pub record Object-bits : Type 0 where
+  pub whole : Laid-whole
+  pub value : Part-value
+  pub own : Bits-laid
+  pub rest : Bits-kept
+  pub taken : Bits-taken
+
+-- laying and taking, one after the other
+pub record Objects-kept : Type 0 where
+  pub got : Part-of-laid
+  pub again : Laid-again
+  pub others : Others-kept
+  pub apart : Apart
+
 -- ## Tables
 
 abbrev pub placesOf : List Held → List Place
@@ -107,6 +122,14 @@ Held-count = (hs : List Held) (h : Held) → length (holding hs h) ≡ cond (isI
 abbrev pub Held-found : Type 0
 Held-found = (hs : List Held) (o : Place) → isIn hs o ≡ isSome (valueIn hs o)
 
+pub record Table-laws : Type 0 where
+  pub same : Same-place
+  pub now : Held-now
+  pub still : Held-still
+  pub order : Held-in-order
+  pub count : Held-count
+  pub found : Held-found
+
 -- ## Faults
 
 -- one of each kind, for block b, with f the disk's own fault
@@ -122,3 +145,8 @@ Faults-name-blocks = (b : ℕ) (f : DiskFault) → diskPlace f ≡ b → map obj
 -- only a dead block has a fault of the disk's behind it
 abbrev pub Faults-causes : Type 0
 Faults-causes = (b : ℕ) (f : DiskFault) → map objectCause (oneOfEach b f) ≡ None ∷ None ∷ None ∷ None ∷ None ∷ None ∷ Some f ∷ []
+
+pub record Fault-laws : Type 0 where
+  pub order : Faults-in-order
+  pub blocks : Faults-name-blocks
+  pub causes : Faults-causes
