@@ -8,11 +8,11 @@ use native.Mathlib.Omega.{arith}
 use native.Mathlib.Nat.{mul-add, mul-le-mul-left}
 use lib.ListN.{length, getD, take, drop, length-take, length-drop}
 use Rattle.std.proofs.shelf.Lists.{getD-take, getD-drop, ext-getD}
-use Rattle.std.proofs.shelf.Tests.{cases-lt, cases-order}
+use Rattle.std.proofs.shelf.Tests.{cases-lt, cases-order, eq-eqb, lt-ltb}
 use Rattle.std.proofs.shelf.Ways.{tells}
 use Rattle.object.specs.declared.Place.{Place}
-use Rattle.object.specs.Objects.{part, laid, same, overlap}
-use Rattle.object.specs.Laws.{Placed, Value, Whole-block, Others-kept, Apart}
+use Rattle.object.specs.Objects.{part, laid, overlap}
+use Rattle.object.specs.Laws.{Placed, Value, Whole-block, Within, Others-kept, Apart, Overlap-shares}
 use Rattle.object.proofs.Spans.{Whole-bytes, bit-or-bytes, times}
 use Rattle.object.proofs.Objects.{part-bit, part-bytes, byte-kept, laid-whole, bits-kept}
 
@@ -28,6 +28,28 @@ aside o p e n = ⊎-elim
 
 not-over : (o p : Place) → (o .block ≡ p .block → Aside o p) → overlap o p ≡ false
 not-over o p h = grind (arith, tells)
+
+abbrev Shared : Place → Place → Type 0
+Shared o p = (o .block ≡ p .block) × ((k : ℕ) × Within o k × Within p k)
+
+-- the later of the two offsets is in both
+shared : (o p : Place) → 1 ≤ o .size → 1 ≤ p .size → overlap o p ≡ true → Shared o p
+shared o p a b e =
+    let k : o .block ≡ p .block = grind (arith, tells) in
+    let l : o .offset < p .offset + p .size = grind (arith, tells) in
+    let m : p .offset < o .offset + o .size = grind (arith, tells) in (
+      k,
+      ⊎-elim
+          (λ (h : o .offset < p .offset). (p .offset, (omega arith, omega arith), (omega arith, omega arith)))
+          (λ (h : p .offset ≤ o .offset). (o .offset, (omega arith, omega arith), (omega arith, omega arith)))
+          (cases-lt (o .offset) (p .offset)),
+    )
+
+over : (o p : Place) → Shared o p → overlap o p ≡ true
+over o p (e, (k, (i, j), (l, m))) = rw (eq-eqb (o .block) (p .block) e, lt-ltb (o .offset) (p .offset + p .size) (omega arith), lt-ltb (p .offset) (o .offset + o .size) (omega arith))
+
+pub overlap-shares : Overlap-shares
+overlap-shares o p a b = (shared o p a b, over o p)
 
 -- of two multiples, the one below ends before the other
 multiples : (s x y : ℕ) → s * x < s * y → s * x + s ≤ s * y

@@ -6,3 +6,4 @@ pub mod Bytes
 pub mod Spans
 pub mod Objects
 pub mod Apart
+pub mod Clashes

@@ -3,11 +3,11 @@ use mathlib.Core.Path.{_≡_}
 use mathlib.Core.List.{List, [], _∷_, _++_, map}
 use mathlib.Core.Bool.{false, true, cond}
 use mathlib.Core.Logic.{_⊎_}
-use Prim.Native.Nat.{ℕ, _+_, _-_, _*_, _/_, _%_, _^_, _≤_, _<_}
+use Prim.Native.Nat.{ℕ, _+_, _-_, _/_, _%_, _^_, _≤_, _<_}
 use lib.ListN.{length, getD}
 use Rattle.std.specs.Options.{isSome}
 use Rattle.std.specs.Orderings.{Decides}
-use Rattle.std.specs.declared.option.Option.{Option}
+use Rattle.std.specs.shelf.Lists.{All, kept-by}
 use Rattle.std.specs.declared.option.Option.the-variants.{Some, None}
 use Rattle.disk.specs.declared.fault.DiskFault.{DiskFault}
 use Rattle.disk.specs.Faults.{diskPlace}
@@ -16,7 +16,7 @@ use Rattle.object.specs.declared.ObjectFault.{ObjectFault}
 use Rattle.object.specs.declared.ObjectFault.the-variants.{Size, Misplaced, Buffer, Bit, Overlap, Table, DeadBlock}
 use Rattle.object.specs.Faults.{objectNumber, objectPlace, objectCause}
 use Rattle.object.specs.Objects.{blockBits, allowed, width, bitAt, part, laid, same, overlap}
-use Rattle.object.specs.Tables.{Held, valueIn, isIn, holding}
+use Rattle.object.specs.Tables.{Held, valueIn, isIn, holding, clashes, dirtyOnes}
 
 -- ## Objects
 
@@ -78,6 +78,10 @@ Laid-again = (o : Place) (bs : List ℕ) → Placed o → Whole-block bs → lai
 abbrev pub Others-kept : Type 0
 Others-kept = (o p : Place) (v bs : List ℕ) → Placed o → Placed p → o .block ≡ p .block → overlap o p ≡ false → Value o v → Whole-block bs → part p (laid o v bs) ≡ part p bs
 
+-- overlap is a bit in common
+abbrev pub Overlap-shares : Type 0
+Overlap-shares = (o p : Place) → 1 ≤ o .size → 1 ≤ p .size → Decides (overlap o p) ((o .block ≡ p .block) × ((k : ℕ) × Within o k × Within p k))
+
 -- two objects of one size are the same or have no bit in common
 abbrev pub Apart : Type 0
 Apart = (o p : Place) → Placed o → Placed p → o .size ≡ p .size → same o p ≡ false → overlap o p ≡ false
@@ -96,6 +100,7 @@ pub record Objects-kept : Type 0 where
   pub again : Laid-again
   pub others : Others-kept
   pub apart : Apart
+  pub shares : Overlap-shares
 
 -- ## Tables
 
@@ -122,6 +127,17 @@ Held-count = (hs : List Held) (h : Held) → length (holding hs h) ≡ cond (isI
 abbrev pub Held-found : Type 0
 Held-found = (hs : List Held) (o : Place) → isIn hs o ≡ isSome (valueIn hs o)
 
+-- with no clash, each object held is the one asked for or has no bit in common with it
+abbrev pub No-clash : Type 0
+No-clash = (hs : List Held) (o : Place) → Placed o → All (λ (h : Held). Placed (h .place)) hs → clashes hs o ≡ false → All (λ (h : Held). (h .place ≡ o) ⊎ (overlap (h .place) o ≡ false)) hs
+
+-- and with one, some object held has a bit in common, and another size
+abbrev pub Clash : Type 0
+Clash = (hs : List Held) (o : Place) → clashes hs o ≡ true → All (λ (h : Held). overlap (h .place) o ≡ true → h .place .size ≡ o .size) hs → ⊥
+
+abbrev pub Dirty-only : Type 0
+Dirty-only = (hs : List Held) → dirtyOnes hs ≡ kept-by (λ (h : Held). h .dirty) hs
+
 pub record Table-laws : Type 0 where
   pub same : Same-place
   pub now : Held-now
@@ -129,6 +145,9 @@ pub record Table-laws : Type 0 where
   pub order : Held-in-order
   pub count : Held-count
   pub found : Held-found
+  pub free : No-clash
+  pub clash : Clash
+  pub dirty : Dirty-only
 
 -- ## Faults
 
