@@ -1,3 +1,4 @@
 pub mod Faults
+pub mod Laws
 pub mod Objects
 pub mod Tables
