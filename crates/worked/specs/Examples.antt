@@ -1,23 +1,22 @@
 -- Worked examples, each an equation that computing decides. Unless they say otherwise they run on a blank card of 70 blocks, just formatted and opened.
 use mathlib.Core.Path.{_≡_}
 use mathlib.Core.List.{List, [], _∷_, _++_, map}
-use mathlib.Core.Bool.{Bool, true, false}
+use mathlib.Core.Bool.{true, false}
 use Prim.Native.Nat.{ℕ, _^_}
 use lib.ListN.{replicate}
 use Rattle.std.specs.Iters.{counting}
-use Rattle.std.specs.declared.option.Option.{Option}
 use Rattle.std.specs.declared.option.Option.the-variants.{Some, None}
 use Rattle.std.specs.declared.result.Result.the-variants.{Ok, Err}
 use Rattle.disk.specs.Tests.{firstOf}
 use Rattle.disk.specs.Meaning.{Blocks, block}
 use Rattle.object.specs.Objects.{allowed}
-use Rattle.card.specs.Layout.{logBlock, area}
+use Rattle.card.specs.Layout.{logBlock}
 use Rattle.model.specs.declared.LogFault.the-variants.{Positions}
 use Rattle.model.specs.Outcomes.{Outcome}
 use Rattle.model.specs.Log.{positionTests, zeros}
 use Rattle.model.specs.Journal.{View, shut, format, opening}
 use Rattle.model.specs.Calls.{Call, begins, reads, overwrites, commits, flushes, logs}
-use Rattle.worked.specs.Runs.{blank, laidOut, ready, piece, after, Reply, reply, replies, writes}
+use Rattle.worked.specs.Runs.{blank, laidOut, ready, piece, after, reply, replies, writes, buffers, found}
 
 -- ## A run of three operations
 
@@ -26,7 +25,7 @@ abbrev pub opener : List Call
 opener = begins 0 ∷ overwrites 0 (piece 64 0 256) (replicate 32 1) ∷ overwrites 0 (piece 65 9 1) (1 ∷ []) ∷ commits 0
     ∷ begins 1 ∷ overwrites 1 (piece 64 256 256) (replicate 32 2) ∷ commits 1 ∷ flushes ∷ []
 
--- after the flush, the third overwrites the next byte of block 64; its commit may not be absorbed
+-- after the flush, the third overwrites the next byte of block 64; so its commit takes a position of its own
 abbrev pub closer : List Call
 closer = begins 2 ∷ overwrites 2 (piece 64 512 8) (7 ∷ []) ∷ commits 2 ∷ []
 
@@ -34,9 +33,10 @@ closer = begins 2 ∷ overwrites 2 (piece 64 512 8) (7 ∷ []) ∷ commits 2 ∷
 abbrev pub cutAfter : ℕ → Blocks
 cutAfter n = after (opener ++ (closer ++ replicate n logs)) ready .disk
 
--- what an opening answers on it, and what it shows of blocks 64 and 65
-abbrev pub found : Blocks → Reply × List (Option (List ℕ))
-found d = (reply (opening shut d .answer), area d 64 ∷ area d 65 ∷ [])
+-- what a new journal on it reads: 512 bits and the byte after them of block 64, and bit 9 of block 65
+abbrev pub seenAfter : ℕ → List (List ℕ)
+seenAfter n = buffers (begins 0 ∷ reads 0 (piece 64 0 512) (replicate 64 9) ∷ reads 0 (piece 64 512 8) (9 ∷ []) ∷ reads 0 (piece 65 9 1) (9 ∷ []) ∷ [])
+    (opening shut (cutAfter n))
 
 -- ## Nearly full
 
@@ -59,6 +59,7 @@ pub record Worked-examples : Type 0 where
   -- where positions lie
   pub log-blocks : map logBlock (0 ∷ 61 ∷ 62 ∷ 123 ∷ []) ≡ (2 ∷ 63 ∷ 2 ∷ 63 ∷ [])
   -- which sizes are allowed
+  pub allowed-sizes : map allowed (1 ∷ 8 ∷ 4096 ∷ 0 ∷ 2 ∷ 8192 ∷ []) ≡ (true ∷ true ∷ true ∷ false ∷ false ∷ false ∷ [])
   pub sizes : replies (begins 0 ∷ reads 0 (piece 64 0 1) (0 ∷ []) ∷ reads 0 (piece 65 0 8) (0 ∷ []) ∷ reads 0 (piece 66 0 4096) zeros
       ∷ reads 0 (piece 67 0 0) [] ∷ reads 0 (piece 67 0 2) (0 ∷ []) ∷ reads 0 (piece 67 0 8192) (replicate 1024 0) ∷ []) ready ≡
       (Ok 0 ∷ Ok 1 ∷ Ok 1 ∷ Ok 512 ∷ Err (14, 67) ∷ Err (14, 67) ∷ Err (14, 67) ∷ [])
@@ -78,6 +79,8 @@ pub record Worked-examples : Type 0 where
   pub cut-two : found (cutAfter 2) ≡ (Ok 0, Some zeros ∷ Some zeros ∷ [])
   pub cut-three : found (cutAfter 3) ≡ (Ok 2, Some (replicate 32 1 ++ (replicate 32 2 ++ replicate 448 0)) ∷ Some (0 ∷ 2 ∷ replicate 510 0) ∷ [])
   pub cut-five : found (cutAfter 5) ≡ (Ok 3, Some (replicate 32 1 ++ (replicate 32 2 ++ 7 ∷ replicate 447 0)) ∷ Some (0 ∷ 2 ∷ replicate 510 0) ∷ [])
+  pub seen-two : seenAfter 2 ≡ ([] ∷ replicate 64 0 ∷ (0 ∷ []) ∷ (0 ∷ []) ∷ [])
+  pub seen-three : seenAfter 3 ≡ ([] ∷ (replicate 32 1 ++ replicate 32 2) ∷ (0 ∷ []) ∷ (1 ∷ []) ∷ [])
   -- block 0 after the third step
   pub header : block (cutAfter 3) 0 ≡ Some (2 ∷ 0 ∷ 0 ∷ 0 ∷ 0 ∷ 0 ∷ 0 ∷ 0 ∷ 64 ∷ 0 ∷ 0 ∷ 0 ∷ 65 ∷ 0 ∷ 0 ∷ 0 ∷ replicate 496 0)
   -- with 55 of 62 slots in use, 8 more updates are too many and 7 are not

@@ -7,12 +7,12 @@ use Rattle.std.specs.declared.result.Result.{Result}
 use Rattle.std.specs.declared.result.Result.the-variants.{Ok, Err}
 use Rattle.disk.specs.Meaning.{Block, Blocks}
 use Rattle.object.specs.declared.Place.{Place}
-use Rattle.card.specs.Layout.{headerBlock, startBlock}
+use Rattle.card.specs.Layout.{headerBlock, startBlock, area}
 use Rattle.model.specs.declared.Fault.{Fault}
 use Rattle.model.specs.Faults.{number, place}
 use Rattle.model.specs.Outcomes.{Outcome}
 use Rattle.model.specs.Log.{zeros}
-use Rattle.model.specs.Journal.{Open, View, openedWith}
+use Rattle.model.specs.Journal.{Open, View, shut, openedWith, opening}
 use Rattle.model.specs.Calls.{Call, begins, overwrites, commits, outcome}
 
 -- ## Cards
@@ -62,6 +62,15 @@ abbrev pub writes : List Call → Outcome View → List (Reply × List ℕ)
 writes [] o = []
 writes (c ∷ cs) o = let p = outcome c (o .state) (o .disk) in (reply (p .answer), p .wrote) ∷ writes cs p
 
--- a commit of one byte of block b, and then these calls
-abbrev pub change : ℕ → List Call → List Call
-change b cs = begins 0 ∷ overwrites 0 (piece b 0 8) (b ∷ []) ∷ commits 0 ∷ cs
+-- and the caller's buffer after each
+abbrev pub buffers : List Call → Outcome View → List (List ℕ)
+buffers [] o = []
+buffers (c ∷ cs) o = let p = outcome c (o .state) (o .disk) in p .buffer ∷ buffers cs p
+
+-- a commit that makes the first byte of block b this, and then these calls
+abbrev pub change : ℕ → ℕ → List Call → List Call
+change b byte cs = begins 0 ∷ overwrites 0 (piece b 0 8) (byte ∷ []) ∷ commits 0 ∷ cs
+
+-- what an opening answers on a card, and what the card shows of blocks 64 and 65
+abbrev pub found : Blocks → Reply × List Block
+found d = (reply (opening shut d .answer), area d 64 ∷ area d 65 ∷ [])
