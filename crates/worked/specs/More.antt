@@ -1,9 +1,9 @@
--- More examples by computing: each refusal on both sides of its line, which of two refusals comes first, and how rounds go.
+-- More examples by computing: each refusal on both sides of its line, which of two comes first, and how rounds go. A number that begins a comment
+-- is that of the refusal shown.
 use mathlib.Core.Path.{_≡_}
 use mathlib.Core.List.{List, [], _∷_, _++_, map}
 use Prim.Native.Nat.{ℕ, _-_, _+_, _^_}
 use lib.ListN.{set, take, replicate}
-use Rattle.std.specs.Iters.{counting}
 use Rattle.std.specs.declared.option.Option.the-variants.{Some, None}
 use Rattle.std.specs.declared.result.Result.the-variants.{Ok, Err}
 use Rattle.disk.specs.Meaning.{Blocks, block, bytesOr}
@@ -99,26 +99,28 @@ pub record More-examples : Type 0 where
       (begins 0 ∷ reads 0 (piece 64 0 8) (9 ∷ []) ∷ overwrites 0 (piece 64 0 2) (8 ∷ []) ∷ commits 0 ∷ givesUp 0 ∷ flushes ∷ logs ∷ installs ∷ []) ≡
       ((Err (4, 0), []) ∷ (Err (4, 0), 9 ∷ []) ∷ (Err (4, 0), 8 ∷ []) ∷ replicate 5 (Err (4, 0), []))
   -- 12 and 13: numbers 0 to 3, each open once; a call by a number that is not open is refused for that first
-  pub numbers : replies (begins 4 ∷ begins 0 ∷ begins 3 ∷ begins 3 ∷ givesUp 3 ∷ givesUp 3 ∷ commits 3 ∷ reads 3 (piece 1 1 2) [] ∷ overwrites 4 (piece 64 0 1) (2 ∷ [])
-      ∷ begins 3 ∷ commits 3 ∷ commits 3 ∷ commits 0 ∷ []) ready ≡
+  pub numbers : replies (begins 4 ∷ begins 0 ∷ begins 3 ∷ begins 3 ∷ givesUp 3 ∷ givesUp 3 ∷ commits 3 ∷ reads 3 (piece 1 1 2) []
+      ∷ overwrites 4 (piece 64 0 1) (2 ∷ []) ∷ begins 3 ∷ commits 3 ∷ commits 3 ∷ commits 0 ∷ []) ready ≡
       (Err (12, 0) ∷ Ok 0 ∷ Ok 3 ∷ Err (12, 0) ∷ Ok 0 ∷ Err (13, 0) ∷ Err (13, 0) ∷ Err (13, 0) ∷ Err (13, 0)
       ∷ Ok 3 ∷ Ok 0 ∷ Err (13, 0) ∷ Ok 0 ∷ [])
   -- 14 and 15: the size comes before the block and the offset, and these before the buffer
   pub places : replies (begins 0 ∷ reads 0 (piece 63 0 4) [] ∷ reads 0 (piece 64 1 12) [] ∷ reads 0 (piece 64 16 16) (0 ∷ 0 ∷ [])
-      ∷ readByte 63 0 ∷ readByte 69 0 ∷ readByte 70 0 ∷ readByte 64 4088 ∷ readByte 64 4096 ∷ readByte 64 4 ∷ readBit 65 4095 ∷ readBit 65 4096 ∷ reads 0 (piece 64 4 8) [] ∷ []) ready ≡
+      ∷ readByte 63 0 ∷ readByte 69 0 ∷ readByte 70 0 ∷ readByte 64 4088 ∷ readByte 64 4096 ∷ readByte 64 4
+      ∷ readBit 65 4095 ∷ readBit 65 4096 ∷ reads 0 (piece 64 4 8) [] ∷ []) ready ≡
       (Ok 0 ∷ Err (14, 63) ∷ Err (14, 64) ∷ Ok 2
       ∷ Err (15, 63) ∷ Ok 1 ∷ Err (15, 70) ∷ Ok 1 ∷ Err (15, 64) ∷ Err (15, 64) ∷ Ok 1 ∷ Err (15, 65) ∷ Err (15, 64) ∷ [])
   -- 16 and 17: the buffer's length comes before what a bit is to be, and that before an overlap
-  pub values : replies (begins 0 ∷ reads 0 (piece 64 0 8) [] ∷ reads 0 (piece 64 0 8) (0 ∷ 0 ∷ []) ∷ reads 0 (piece 64 0 1) [] ∷ overwrites 0 (piece 64 0 8) (255 ∷ [])
-      ∷ overwrites 0 (piece 65 0 1) (2 ∷ 0 ∷ []) ∷ overwrites 0 (piece 65 0 1) (2 ∷ []) ∷ overwrites 0 (piece 65 0 1) (1 ∷ []) ∷ overwrites 0 (piece 64 0 1) (2 ∷ [])
-      ∷ reads 0 (piece 65 1 1) (9 ∷ []) ∷ []) ready ≡
+  pub values : replies (begins 0 ∷ reads 0 (piece 64 0 8) [] ∷ reads 0 (piece 64 0 8) (0 ∷ 0 ∷ []) ∷ reads 0 (piece 64 0 1) []
+      ∷ overwrites 0 (piece 64 0 8) (255 ∷ []) ∷ overwrites 0 (piece 65 0 1) (2 ∷ 0 ∷ []) ∷ overwrites 0 (piece 65 0 1) (2 ∷ []) ∷ overwrites 0 (piece 65 0 1) (1 ∷ [])
+      ∷ overwrites 0 (piece 64 0 1) (2 ∷ []) ∷ reads 0 (piece 65 1 1) (9 ∷ []) ∷ []) ready ≡
       (Ok 0 ∷ Err (16, 64) ∷ Err (16, 64) ∷ Err (16, 64) ∷ Ok 1 ∷ Err (16, 65) ∷ Err (17, 65) ∷ Ok 1 ∷ Err (17, 64) ∷ Ok 1 ∷ [])
   -- 18: a held byte, and objects of another size in and beside it
-  pub overlaps : replies (begins 0 ∷ readByte 64 8 ∷ readBit 64 8 ∷ readBit 64 15 ∷ readBit 64 7 ∷ readBit 64 16 ∷ readBit 65 8 ∷ readByte 64 8 ∷ readByte 64 16 ∷ reads 0 (piece 64 0 16) (0 ∷ 0 ∷ [])
-      ∷ reads 0 (piece 64 32 16) (0 ∷ 0 ∷ []) ∷ []) ready ≡
+  pub overlaps : replies (begins 0 ∷ readByte 64 8 ∷ readBit 64 8 ∷ readBit 64 15 ∷ readBit 64 7 ∷ readBit 64 16 ∷ readBit 65 8 ∷ readByte 64 8 ∷ readByte 64 16
+      ∷ reads 0 (piece 64 0 16) (0 ∷ 0 ∷ []) ∷ reads 0 (piece 64 32 16) (0 ∷ 0 ∷ []) ∷ []) ready ≡
       (Ok 0 ∷ Ok 1 ∷ Err (18, 64) ∷ Err (18, 64) ∷ Ok 1 ∷ Ok 1 ∷ Ok 1 ∷ Ok 1 ∷ Err (18, 64) ∷ Err (18, 64) ∷ Ok 2 ∷ [])
   -- 19 and 20: a ninth object is refused, a held one is not; an overlap comes before a full table, and that before a dead block
-  pub tables : replies (stuffed ++ readByte 64 64 ∷ readByte 64 56 ∷ readBit 64 3 ∷ readByte 66 0 ∷ overwrites 0 (piece 66 0 1) (2 ∷ []) ∷ overwrites 0 (piece 64 0 8) (1 ∷ []) ∷ []) maimed ≡
+  pub tables : replies (stuffed ++ readByte 64 64 ∷ readByte 64 56 ∷ readBit 64 3 ∷ readByte 66 0
+      ∷ overwrites 0 (piece 66 0 1) (2 ∷ []) ∷ overwrites 0 (piece 64 0 8) (1 ∷ []) ∷ []) maimed ≡
       (Ok 0 ∷ (replicate 8 (Ok 1) ++ Err (19, 64) ∷ Ok 1 ∷ Err (18, 64) ∷ Err (19, 66) ∷ Err (17, 66) ∷ Ok 1 ∷ []))
   pub dead-blocks : replies (begins 0 ∷ readByte 65 0 ∷ readByte 66 0 ∷ overwrites 0 (piece 66 0 8) (1 ∷ []) ∷ reads 0 (piece 66 0 8) [] ∷ readByte 67 0 ∷ []) maimed ≡
       (Ok 0 ∷ Ok 1 ∷ Err (20, 66) ∷ Err (20, 66) ∷ Err (16, 66) ∷ Ok 1 ∷ [])
@@ -137,8 +139,8 @@ pub record More-examples : Type 0 where
       ∷ reads 1 (piece 64 0 8) (9 ∷ []) ∷ begins 2 ∷ reads 2 (piece 64 0 8) (9 ∷ []) ∷ []) ready ≡
       ([] ∷ [] ∷ (5 ∷ []) ∷ (5 ∷ []) ∷ (0 ∷ []) ∷ [] ∷ (0 ∷ []) ∷ [] ∷ (5 ∷ []) ∷ [])
   -- two operations change two bits of one byte, and neither change is lost; what a third gives up is
-  pub joined-bits : buffers (begins 0 ∷ begins 1 ∷ begins 2 ∷ overwrites 0 (piece 64 0 1) (1 ∷ []) ∷ overwrites 1 (piece 64 1 1) (1 ∷ []) ∷ overwrites 2 (piece 64 2 1) (1 ∷ [])
-      ∷ commits 1 ∷ commits 0 ∷ givesUp 2 ∷ begins 3 ∷ reads 3 (piece 64 0 8) (9 ∷ []) ∷ []) ready ≡
+  pub joined-bits : buffers (begins 0 ∷ begins 1 ∷ begins 2 ∷ overwrites 0 (piece 64 0 1) (1 ∷ []) ∷ overwrites 1 (piece 64 1 1) (1 ∷ [])
+      ∷ overwrites 2 (piece 64 2 1) (1 ∷ []) ∷ commits 1 ∷ commits 0 ∷ givesUp 2 ∷ begins 3 ∷ reads 3 (piece 64 0 8) (9 ∷ []) ∷ []) ready ≡
       ([] ∷ [] ∷ [] ∷ (1 ∷ []) ∷ (1 ∷ []) ∷ (1 ∷ []) ∷ [] ∷ [] ∷ [] ∷ [] ∷ (3 ∷ []) ∷ [])
   -- ## Rounds
 
