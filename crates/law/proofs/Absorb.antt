@@ -121,7 +121,7 @@ absorbed-distinct u [] h = (refl, tt)
 absorbed-distinct u (v ∷ vs) h = ⊎-elim
     (λ hit. subst (λ (ws : List Update). Distinct (homesOf ws)) (sym (absorbed-hit u v vs hit)) (subst (λ (n : ℕ). among n (homesOf vs) ≡ false) hit (h .0), h .1))
     (λ miss. subst (λ (ws : List Update). Distinct (homesOf ws)) (sym (absorbed-miss u v vs miss))
-      (absorbed-among u vs (v .home) ∙ neither (among (v .home) (homesOf vs)) (eqb (v .home) (u .home)) (h .0) (ne-eqb (v .home) (u .home) miss), absorbed-distinct u vs (h .1)))
+    (absorbed-among u vs (v .home) ∙ neither (among (v .home) (homesOf vs)) (eqb (v .home) (u .home)) (h .0) (ne-eqb (v .home) (u .home) miss), absorbed-distinct u vs (h .1)))
     (cases-eq (v .home) (u .home))
 
 -- a home that is there takes no place more

@@ -90,7 +90,7 @@ pub dirty-distinct : (hs : List Held) (seen : List ℕ) → Distinct (dirtyBlock
 dirty-distinct [] seen = tt
 dirty-distinct (h ∷ hs) seen = ⊎-elim
     (λ t. subst Distinct (sym (dirty-takes h hs seen t))
-      (dirty-unseen hs (h .place .block ∷ seen) (h .place .block) (ap (λ q. either q (among (h .place .block) seen)) (eq-eqb (h .place .block) (h .place .block) refl)), dirty-distinct hs (h .place .block ∷ seen)))
+    (dirty-unseen hs (h .place .block ∷ seen) (h .place .block) (ap (λ q. either q (among (h .place .block) seen)) (eq-eqb (h .place .block) (h .place .block) refl)), dirty-distinct hs (h .place .block ∷ seen)))
     (λ f. subst Distinct (sym (dirty-skips h hs seen f)) (dirty-distinct hs seen))
     (decided (picks h hs seen))
 
@@ -151,14 +151,14 @@ module _ (hs : List Held) (d : Blocks) (settled : ℕ) where
       merged-latest cs (grown c us) (longer c us fits) (h .1) (grown-distinct c us fits h₂) b ∙
       ⊎-elim
       (λ (same : c ≡ b).
-        ap (λ t. cond t (Some (laidIn hs b (bytesOr (latest (grown c us) b (block d b)) []))) (latest (grown c us) b (block d b))) (subst (λ (n : ℕ). among n cs ≡ false) same (h .0)) ∙
-        added-latest settled (fresh c us) us fits b (block d b) h₂ ∙ latest-here (fresh c us) b _ same ∙
-        subst (λ (n : ℕ). Some (laidIn hs n (bytesOr (latest us n (block d n)) [])) ≡ cond (among b (c ∷ cs)) (Some (laidIn hs b (bytesOr (latest us b (block d b)) []))) (latest us b (block d b))) (sym same)
-        (sym (ap (λ t. cond (either t (among b cs)) (Some (laidIn hs b (bytesOr (latest us b (block d b)) []))) (latest us b (block d b))) (eq-eqb b c (sym same)))))
+      ap (λ t. cond t (Some (laidIn hs b (bytesOr (latest (grown c us) b (block d b)) []))) (latest (grown c us) b (block d b))) (subst (λ (n : ℕ). among n cs ≡ false) same (h .0)) ∙
+      added-latest settled (fresh c us) us fits b (block d b) h₂ ∙ latest-here (fresh c us) b _ same ∙
+      subst (λ (n : ℕ). Some (laidIn hs n (bytesOr (latest us n (block d n)) [])) ≡ cond (among b (c ∷ cs)) (Some (laidIn hs b (bytesOr (latest us b (block d b)) []))) (latest us b (block d b))) (sym same)
+      (sym (ap (λ t. cond (either t (among b cs)) (Some (laidIn hs b (bytesOr (latest us b (block d b)) []))) (latest us b (block d b))) (eq-eqb b c (sym same)))))
       (λ other.
-        let keep = added-latest settled (fresh c us) us fits b (block d b) h₂ ∙ latest-other (fresh c us) b _ other in
-        ap (λ (y : Block). cond (among b cs) (Some (laidIn hs b (bytesOr y []))) y) keep ∙
-        sym (ap (λ t. cond (either t (among b cs)) (Some (laidIn hs b (bytesOr (latest us b (block d b)) []))) (latest us b (block d b))) (ne-eqb b c (λ e. other (sym e)))))
+      let keep = added-latest settled (fresh c us) us fits b (block d b) h₂ ∙ latest-other (fresh c us) b _ other in
+      ap (λ (y : Block). cond (among b cs) (Some (laidIn hs b (bytesOr y []))) y) keep ∙
+      sym (ap (λ t. cond (either t (among b cs)) (Some (laidIn hs b (bytesOr (latest us b (block d b)) []))) (latest us b (block d b))) (ne-eqb b c (λ e. other (sym e)))))
       (cases-eq c b)
 
   -- what holds of the updates and of each new one

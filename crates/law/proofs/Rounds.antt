@@ -163,16 +163,16 @@ idle l d k over = record {
 rest-done : (l : Log) (d : Blocks) → Kept l d → LogDone l d (logBy None l d)
 rest-done l d k = ⊎-elim
     (λ (a : l .end < l .frozen). subst (LogDone l d) (sym (ap (λ t. cond t (logRound l l (record { next = l .end; target = l .frozen }) d) (logLast l d)) (lt-ltb (l .end) (l .frozen) a)))
-      (round-done l l d k (record { next = l .end; target = l .frozen }) (fresh l d (l .frozen) a (omega arith))))
+    (round-done l l d k (record { next = l .end; target = l .frozen }) (fresh l d (l .frozen) a (omega arith))))
     (λ (a : l .frozen ≤ l .end). subst (LogDone l d) (sym (ap (λ t. cond t (logRound l l (record { next = l .end; target = l .frozen }) d) (logLast l d)) (le-ltb (l .end) (l .frozen) a)))
-      (⊎-elim
-      (λ (b : l .end < last l). let m = frozenAt l (last l) in
-        subst (LogDone l d) (sym (ap (λ t. cond t (logRound l m (record { next = l .end; target = last l }) d) (answering (l .end) [] l d)) (lt-ltb (l .end) (last l) b)))
-        (again l d _ (round-done l m d (flush-kept l d k) (record { next = l .end; target = last l }) (fresh m d (last l) b (omega arith)))))
-      (λ (b : last l ≤ l .end). let m = frozenAt l (last l) in
-        subst (LogDone l d) (sym (ap (λ t. cond t (logRound l m (record { next = l .end; target = last l }) d) (answering (l .end) [] l d)) (le-ltb (l .end) (last l) b)))
-        (idle l d k b))
-      (cases-lt (l .end) (last l))))
+    (⊎-elim
+    (λ (b : l .end < last l). let m = frozenAt l (last l) in
+    subst (LogDone l d) (sym (ap (λ t. cond t (logRound l m (record { next = l .end; target = last l }) d) (answering (l .end) [] l d)) (lt-ltb (l .end) (last l) b)))
+    (again l d _ (round-done l m d (flush-kept l d k) (record { next = l .end; target = last l }) (fresh m d (last l) b (omega arith)))))
+    (λ (b : last l ≤ l .end). let m = frozenAt l (last l) in
+    subst (LogDone l d) (sym (ap (λ t. cond t (logRound l m (record { next = l .end; target = last l }) d) (answering (l .end) [] l d)) (le-ltb (l .end) (last l) b)))
+    (idle l d k b))
+    (cases-lt (l .end) (last l))))
     (cases-lt (l .end) (l .frozen))
 
 log-by : (o : Option Round) (l : Log) (d : Blocks) → Kept l d → IfSome o (Logs (l .start) (l .end) (l .frozen) (l .updates) d) → LogDone l d (logBy o l d)
@@ -227,13 +227,18 @@ module _ (l : Log) (d : Blocks) (k : Kept l d) (r : Round) (i : Installs (l .sta
         answer = refl;
         buffer = refl;
         writes = (u .bytes, refl, here .full, here .alive);
-        places = inr (r .next, omega (arith, i .from, k .card .at-start), omega (arith, i .below, k .card .at-end), ap (λ (x : Update). x .home) on,
+        places = inr (
+          r .next,
+          omega (arith, i .from, k .card .at-start),
+          omega (arith, i .below, k .card .at-end),
+          ap (λ (x : Update). x .home) on,
           block-here d (u .home) (u .bytes) (here .high) ∙ ap (λ (x : Update). Some (x .bytes)) on ∙ sym (live-bytes (block d (logBlock (r .next))) (k .card .ready .alive (logBlock (r .next)) (log-low (r .next)))),
-          sym (card .at-start) ∙ k .card .at-start);
+          sym (card .at-start) ∙ k .card .at-start,
+        );
         shown = λ q b a h. ⊎-elim
             (λ (same : b ≡ u .home). latest-at (take (q - s′) vs) (r .next - s′) b (block d′ b) (block d b)
-              (let m = length-take (q - s′) vs in omega (arith, i .from, i .below, k .order .end-frozen, k .order .frozen-last))
-              (ap (λ (x : Update). x .home) (getD-take (q - s′) vs (r .next - s′) absent (omega (arith, i .from, i .below))) ∙ sym same))
+            (let m = length-take (q - s′) vs in omega (arith, i .from, i .below, k .order .end-frozen, k .order .frozen-last))
+            (ap (λ (x : Update). x .home) (getD-take (q - s′) vs (r .next - s′) absent (omega (arith, i .from, i .below))) ∙ sym same))
             (λ ne. ap (latest (take (q - s′) vs) b) (block-other d (u .home) (u .bytes) b ne))
             (cases-eq b (u .home));
         end = refl;
@@ -291,11 +296,11 @@ install-by None l d k i =
     let r : Round = record { next = l .start; target = l .end } in
     ⊎-elim
     (λ (a : l .start < l .end).
-      let i₀ : Installs (l .start) (l .end) (l .updates) d r = record { from = omega arith; upto = omega arith; some = a; below = omega arith; home = λ b h. ap (λ j. latest (take j (l .updates)) b (block d b)) (let y : l .start - l .start ≡ 0 = omega arith in y) } in
-      subst (InstallDone l d) (sym (ap (λ t. cond t (installRound l r d) (answering (l .start) [] l d)) (lt-ltb (l .start) (l .end) a))) (install-round l d k r i₀))
+    let i₀ : Installs (l .start) (l .end) (l .updates) d r = record { from = omega arith; upto = omega arith; some = a; below = omega arith; home = λ b h. ap (λ j. latest (take j (l .updates)) b (block d b)) (let y : l .start - l .start ≡ 0 = omega arith in y) } in
+    subst (InstallDone l d) (sym (ap (λ t. cond t (installRound l r d) (answering (l .start) [] l d)) (lt-ltb (l .start) (l .end) a))) (install-round l d k r i₀))
     (λ (a : l .end ≤ l .start).
-      subst (InstallDone l d) (sym (ap (λ t. cond t (installRound l r d) (answering (l .start) [] l d)) (le-ltb (l .start) (l .end) a)))
-      (record { kept = k; answer = refl; buffer = refl; writes = refl; places = omega (arith, k .card .at-start, k .card .at-end, k .order .start-end); shown = λ q b x y. refl; end = refl; frozen = refl; reach = refl; logging = refl; later = λ p x. refl }))
+    subst (InstallDone l d) (sym (ap (λ t. cond t (installRound l r d) (answering (l .start) [] l d)) (le-ltb (l .start) (l .end) a)))
+    (record { kept = k; answer = refl; buffer = refl; writes = refl; places = omega (arith, k .card .at-start, k .card .at-end, k .order .start-end); shown = λ q b x y. refl; end = refl; frozen = refl; reach = refl; logging = refl; later = λ p x. refl }))
     (cases-lt (l .start) (l .end))
 
 pub install-done : (l : Log) (d : Blocks) → Kept l d → InstallDone l d (installStep l d)

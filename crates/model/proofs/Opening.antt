@@ -136,7 +136,9 @@ unwritten (Some f) d = (refl, refl)
 
 pub opening-law : Opening-law
 opening-law d w =
-    let u = unwritten (firstOf (openTests shut d)) d in
-    (u .0, u .1,
-    (λ s. ap (λ o. decided o [] shut d (opens d) .answer) (first-mapped InLog (openingTests d) ∙ ap (mapped InLog) (sound-passes d w s))),
-    λ e ok. passes-sound d (opening-granted d e ok .0))
+    let u = unwritten (firstOf (openTests shut d)) d in (
+      u .0,
+      u .1,
+      (λ s. ap (λ o. decided o [] shut d (opens d) .answer) (first-mapped InLog (openingTests d) ∙ ap (mapped InLog) (sound-passes d w s))),
+      λ e ok. passes-sound d (opening-granted d e ok .0),
+    )
