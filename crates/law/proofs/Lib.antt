@@ -7,3 +7,5 @@ pub mod Installer
 pub mod Rounds
 pub mod Absorb
 pub mod Commits
+pub mod Reopen
+pub mod Areas
