@@ -54,7 +54,7 @@ module _ (h : Held) (hs : List Held) (seen : List ℕ) where
   abbrev x : ℕ
   x = h .place .block
 
-  abbrev picks : Bool
+  abbrev pub picks : Bool
   picks = both (h .dirty) (not (among x seen))
 
   pub dirty-takes : picks ≡ true → dirtyBlocks (h ∷ hs) seen ≡ x ∷ dirtyBlocks hs (x ∷ seen)

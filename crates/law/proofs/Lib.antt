@@ -9,3 +9,5 @@ pub mod Absorb
 pub mod Commits
 pub mod Reopen
 pub mod Areas
+pub mod Tables
+pub mod Committed
