@@ -20,7 +20,7 @@ use Rattle.card.specs.Layout.{slots, homesFrom, slot, logBlock, headerBlock, st
 use Rattle.model.specs.declared.Round.{Round}
 use Rattle.model.specs.Outcomes.{Outcome, answering}
 use Rattle.model.specs.Log.{Log, last}
-use Rattle.model.specs.Steps.{updateAt, frozenAt, loggingAt, installingAt, endedAt, startedAt, withHomes, logNext, logHeader, logRound, logLast, logBy, logStep, installNext, installStart, installRound, installBy, installStep}
+use Rattle.model.specs.Steps.{updateAt, frozenAt, loggingAt, installingAt, endedAt, startedAt, withHomes, homesAfter, logNext, logHeader, logRound, logLast, logBy, logStep, installNext, installStart, installRound, installBy, installStep}
 use Rattle.law.specs.Law.{ByWrote, LogsAt, InstallsAt, HomesKept}
 use Rattle.model.proofs.Card.{live-bytes}
 use Rattle.law.proofs.Latest.{latest-split, latest-at}
@@ -60,6 +60,11 @@ pub record LogDone (l : Log) (d : Blocks) (o : Outcome Log) : Type 0 where
   pub updates : o .state .updates ≡ l .updates
   pub installing : o .state .installing ≡ l .installing
 
+-- a step in round r, from log l to log m
+pub record Moves (r : Round) (l m : Log) : Type 0 where
+  pub frozen : m .frozen ≡ l .frozen
+  pub moved : ((r .next < r .target) × (m .logging ≡ Some (record { next = r .next + 1; target = r .target })) × (m .end ≡ l .end)) ⊎ ((r .target ≤ r .next) × (m .logging ≡ None) × (m .end ≡ r .target))
+
 module _ (before l : Log) (d : Blocks) (k : Kept l d) (r : Round) (g : Logs (l .start) (l .end) (l .frozen) (l .updates) d r) where
   abbrev s : ℕ
   s = l .start
@@ -69,6 +74,26 @@ module _ (before l : Log) (d : Blocks) (k : Kept l d) (r : Round) (g : Logs (l .
 
   abbrev next : ℕ
   next = r .next
+
+  block-eq : next < r .target → logRound before l r d ≡ wroteOne d (logBlock next) (updateAt l next .bytes) (l .end) (loggingAt l (record { next = next + 1; target = r .target }))
+  block-eq more =
+      ap (λ t. cond t (logNext before l r d) (logHeader before l r d)) (lt-ltb next (r .target) more) ∙
+      writing-granted before d (logBlock next) (updateAt l next .bytes) (l .end) (loggingAt l (record { next = next + 1; target = r .target }))
+      (logger.inside s (l .end) (l .frozen) us (l .homes) d (k .order) (k .card) (k .good) r g more) (logger.alive s (l .end) (l .frozen) us (l .homes) d (k .order) (k .card) (k .good) r g more)
+      (logger.here s (l .end) (l .frozen) us (l .homes) d (k .order) (k .card) (k .good) r g more .full)
+
+  header-eq : r .target ≤ next → logRound before l r d ≡ wroteOne d 0 (headerBlock (record { end = r .target; homes = homesAfter l r })) (r .target) (endedAt l (r .target) (homesAfter l r))
+  header-eq over =
+      ap (λ t. cond t (logNext before l r d) (logHeader before l r d)) (le-ltb next (r .target) over) ∙
+      writing-granted before d 0 (headerBlock (record { end = r .target; homes = homesAfter l r })) (r .target) (endedAt l (r .target) (homesAfter l r))
+      (omega (arith, k .card .ready .large)) (k .card .ready .alive 0 (omega arith)) (logger.full s (l .end) (l .frozen) us (l .homes) d (k .order) (k .card) (k .good) r g over)
+
+  -- the round goes on by one, or is over
+  pub round-moves : Moves r l (logRound before l r d .state)
+  round-moves = ⊎-elim
+      (λ (more : next < r .target). subst (λ (o : Outcome Log). Moves r l (o .state)) (sym (block-eq more)) (record { frozen = refl; moved = inl (more, refl, refl) }))
+      (λ over. subst (λ (o : Outcome Log). Moves r l (o .state)) (sym (header-eq over)) (record { frozen = refl; moved = inr (over, refl, refl) }))
+      (cases-lt next (r .target))
 
   pub round-block : next < r .target → LogDone l d (logRound before l r d)
   round-block more =
@@ -101,7 +126,7 @@ module _ (before l : Log) (d : Blocks) (k : Kept l d) (r : Round) (g : Logs (l .
         updates = refl;
         installing = refl;
       } in
-      subst (LogDone l d) (sym (ap (λ t. cond t (logNext before l r d) (logHeader before l r d)) (lt-ltb next (r .target) more) ∙ writing-granted before d (logBlock next) bytes e to inside alive (here .full))) done
+      subst (LogDone l d) (sym (block-eq more)) done
 
   pub round-header : r .target ≤ next → LogDone l d (logRound before l r d)
   round-header over =
@@ -133,7 +158,7 @@ module _ (before l : Log) (d : Blocks) (k : Kept l d) (r : Round) (g : Logs (l .
         updates = refl;
         installing = refl;
       } in
-      subst (LogDone l d) (sym (ap (λ t. cond t (logNext before l r d) (logHeader before l r d)) (le-ltb next (r .target) over) ∙ writing-granted before d 0 bytes (r .target) to large alive full)) done
+      subst (LogDone l d) (sym (header-eq over)) done
 
   pub round-done : LogDone l d (logRound before l r d)
   round-done = ⊎-elim round-block round-header (cases-lt next (r .target))
@@ -174,6 +199,51 @@ rest-done l d k = ⊎-elim
     (idle l d k b))
     (cases-lt (l .end) (last l))))
     (cases-lt (l .end) (l .frozen))
+
+-- ## Which round a step works in
+
+-- the log that it works on: settled first, where nothing settled is left to log
+abbrev pub working : Log → Option Round → Log
+working l (Some r) = l
+working l None = cond (ltb (l .end) (l .frozen)) l (frozenAt l (last l))
+
+-- the round: the one that runs, else one to frozen, else one to last
+abbrev pub roundOf : Log → Option Round → Round
+roundOf l (Some r) = r
+roundOf l None = record { next = l .end; target = cond (ltb (l .end) (l .frozen)) (l .frozen) (last l) }
+
+-- a step does nothing, or works in that round
+pub record LogGoes (l : Log) (o : Option Round) (m : Log) : Type 0 where
+  pub goes : ((o ≡ None) × (m ≡ l) × (last l ≤ l .end)) ⊎ Moves (roundOf l o) (working l o) m
+
+goes-none : (l : Log) (d : Blocks) → Kept l d → LogGoes l None (logBy None l d .state)
+goes-none l d k = ⊎-elim
+    (λ (a : l .end < l .frozen).
+      let t = lt-ltb (l .end) (l .frozen) a in
+      let r : Round = record { next = l .end; target = l .frozen } in
+      record { goes = inr (subst (λ (q : Bool). Moves (record { next = l .end; target = cond q (l .frozen) (last l) }) (cond q l (frozenAt l (last l))) (cond q (logRound l l r d) (logLast l d) .state)) (sym t) (round-moves l l d k r (fresh l d (l .frozen) a (omega arith)))) })
+    (λ (a : l .frozen ≤ l .end).
+      let t = le-ltb (l .end) (l .frozen) a in
+      let m = frozenAt l (last l) in
+      let r : Round = record { next = l .end; target = last l } in
+      let q : Round = record { next = l .end; target = l .frozen } in
+      ⊎-elim
+      (λ (b : l .end < last l).
+        let u = lt-ltb (l .end) (last l) b in
+        record { goes = inr (subst (λ (x : Bool). Moves (record { next = l .end; target = cond x (l .frozen) (last l) }) (cond x l m) (cond x (logRound l l q d) (logLast l d) .state)) (sym t)
+          (subst (λ (x : Bool). Moves r m (cond x (logRound l m r d) (answering (l .end) [] l d) .state)) (sym u) (round-moves l m d (flush-kept l d k) r (fresh m d (last l) b (omega arith))))) })
+      (λ (b : last l ≤ l .end).
+        let u = le-ltb (l .end) (last l) b in
+        record { goes = inl (refl, ap (λ x. cond x (logRound l l q d) (logLast l d) .state) t ∙ ap (λ x. cond x (logRound l m r d) (answering (l .end) [] l d) .state) u, b) })
+      (cases-lt (l .end) (last l)))
+    (cases-lt (l .end) (l .frozen))
+
+log-goes-by : (o : Option Round) (l : Log) (d : Blocks) → Kept l d → IfSome o (Logs (l .start) (l .end) (l .frozen) (l .updates) d) → LogGoes l o (logBy o l d .state)
+log-goes-by None l d k g = goes-none l d k
+log-goes-by (Some r) l d k g = record { goes = inr (round-moves l l d k r g) }
+
+pub log-goes : (l : Log) (d : Blocks) → Kept l d → LogGoes l (l .logging) (logStep l d .state)
+log-goes l d k = log-goes-by (l .logging) l d k (k .logging)
 
 log-by : (o : Option Round) (l : Log) (d : Blocks) → Kept l d → IfSome o (Logs (l .start) (l .end) (l .frozen) (l .updates) d) → LogDone l d (logBy o l d)
 log-by None l d k g = rest-done l d k
