@@ -11,3 +11,4 @@ pub mod Reopen
 pub mod Areas
 pub mod Tables
 pub mod Committed
+pub mod Told
