@@ -12,3 +12,4 @@ pub mod Areas
 pub mod Tables
 pub mod Committed
 pub mod Told
+pub mod CommitTold
