@@ -33,11 +33,11 @@ use Rattle.law.proofs.Told.{Shows, openHomes, LogTold}
 
 -- ## Dirty blocks, by their objects
 
-split : (t : Bool) → (t ≡ true) ⊎ (t ≡ false)
+pub split : (t : Bool) → (t ≡ true) ⊎ (t ≡ false)
 split true = inl refl
 split false = inr refl
 
-clash : (t : Bool) → t ≡ true → t ≡ false → ⊥
+pub clash : (t : Bool) → t ≡ true → t ≡ false → ⊥
 clash t a b = let z : _≡_ {A = ℕ} 0 1 = cc in omega arith
 
 among-skip : (b x : ℕ) (xs seen : List ℕ) → among b seen ≡ false → among x seen ≡ true → among b xs ≡ either (eqb b x) (among b xs)
@@ -112,12 +112,12 @@ upTo-push-keep : (q : ℕ) (cs : List Commit) (c : Commit) → c .position ≤ q
 upTo-push-keep q [] c l = ap (λ t. cond t (c ∷ []) []) (le-leb (c .position) q l)
 upTo-push-keep q (x ∷ cs) c l = pushed (leb (x .position) q) x (upTo q (cs ++ c ∷ [])) (upTo q cs) c (upTo-push-keep q cs c l)
 
-dead-none : (x : Block) → isLive x ≡ false → x ≡ None
+pub dead-none : (x : Block) → isLive x ≡ false → x ≡ None
 dead-none None e = refl
 dead-none (Some bs) e = let z : _≡_ {A = ℕ} 0 1 = cc in absurd (omega arith)
 
 -- no good update has a dead home
-dead-home : (us : List Update) (d : Blocks) (b : ℕ) → Every (Good d) us → isLive (block d b) ≡ false → among b (homesOf us) ≡ false
+pub dead-home : (us : List Update) (d : Blocks) (b : ℕ) → Every (Good d) us → isLive (block d b) ≡ false → among b (homesOf us) ≡ false
 dead-home [] d b h e = refl
 dead-home (u ∷ us) d b h e =
     ap (λ q. either q (among b (homesOf us))) (ne-eqb b (u .home) (λ s. clash (isLive (block d b)) (subst (λ (n : ℕ). isLive (block d n) ≡ true) (sym s) (h .0 .alive)) e)) ∙ dead-home us d b (h .1) e

@@ -13,3 +13,4 @@ pub mod Tables
 pub mod Committed
 pub mod Told
 pub mod CommitTold
+pub mod Refusals
