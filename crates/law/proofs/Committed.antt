@@ -44,7 +44,7 @@ pub latest-full : (us : List Update) (b : ℕ) (x : Block) → Every (λ u. leng
 latest-full [] b x h f = f
 latest-full (u ∷ us) b x h f = latest-full us b (cond (eqb (u .home) b) (Some (u .bytes)) x) (h .1) (either-full (eqb (u .home) b) (u .bytes) x (h .0) f)
 
-full-bytes : (x : Block) → Full x → length (bytesOr x []) ≡ blockSize
+pub full-bytes : (x : Block) → Full x → length (bytesOr x []) ≡ blockSize
 full-bytes None f = absurd f
 full-bytes (Some bs) f = f
 

@@ -14,3 +14,4 @@ pub mod Committed
 pub mod Told
 pub mod CommitTold
 pub mod Refusals
+pub mod Ops

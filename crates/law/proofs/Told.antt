@@ -61,7 +61,7 @@ pub settled-none : (l : Log) → last l ≤ l .frozen → openHomes l ≡ []
 settled-none l h = ap homesOf (drop-all (l .frozen - l .start) (l .updates) (omega arith))
 
 -- a step leaves as many blocks as there were, and which of them live
-wrote-length : (ws : List ℕ) (d e : Blocks) → ByWrote ws (e ≡ d) (λ b. (bs : List ℕ) × (e ≡ set d b (Some bs)) × (length bs ≡ blockSize) × (isLive (block d b) ≡ true)) → length e ≡ length d
+pub wrote-length : (ws : List ℕ) (d e : Blocks) → ByWrote ws (e ≡ d) (λ b. (bs : List ℕ) × (e ≡ set d b (Some bs)) × (length bs ≡ blockSize) × (isLive (block d b) ≡ true)) → length e ≡ length d
 wrote-length [] d e h = ap length h
 wrote-length (b ∷ []) d e h = ap length (h .1) ∙ length-set d b (Some (h .0))
 wrote-length (b ∷ c ∷ ws) d e h = absurd h
@@ -225,7 +225,7 @@ module _ (first : Area) (commits : List Commit) where
     stillᵢ q e h b a lt = doneᵢ .shown q b e a ∙ h b a (subst (λ (n : ℕ). b < n) same-lengthᵢ lt)
 
     -- the updates from frozen on are the same list
-    open-same : openHomes mᵢ ≡ openHomes l
+    pub open-same : openHomes mᵢ ≡ openHomes l
     open-same = ap homesOf (same-lists (drop (mᵢ .frozen - mᵢ .start) (mᵢ .updates)) (drop (l .frozen - l .start) (l .updates))
         (length-drop (mᵢ .frozen - mᵢ .start) (mᵢ .updates) ∙ (let a = length-drop (l .frozen - l .start) (l .updates) in let b = doneᵢ .kept .order .frozen-last in let c = doneᵢ .kept .order .end-frozen in let e = doneᵢ .kept .order .start-end in omega (arith, doneᵢ .frozen, doneᵢ .reach, k .order .frozen-last, k .order .end-frozen, k .order .start-end)))
         (λ i x lt. getD-drop (mᵢ .frozen - mᵢ .start) (mᵢ .updates) i x ∙ getD-default (mᵢ .updates) (mᵢ .frozen - mᵢ .start + i) x absent (let a = length-drop (mᵢ .frozen - mᵢ .start) (mᵢ .updates) in omega arith) ∙
