@@ -15,3 +15,4 @@ pub mod Told
 pub mod CommitTold
 pub mod Refusals
 pub mod Ops
+pub mod Run

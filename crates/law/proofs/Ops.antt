@@ -179,7 +179,7 @@ module _ (j : Open) (d : Blocks) (r : Record) (i : Inv j d r) (n : ℕ) where
     read-inv = subst (λ (q : Bool). Inv (cond (isIn hs o) j (holds j n (entry-of (seen j d n o)))) d (cond q r (touching r n (Some (touchedBy r n ++ entry-of fromArea ∷ []))))) (sym same-touched) (read-by (isIn hs o) refl)
 
     -- the number is one of an open operation
-    in-range : n < length (r .touched)
+    pub in-range : n < length (r .touched)
     in-range =
         let open-op = not-false (isSome (getD (j .operations) n None)) (none-first _ [] (none-both (ticketTests j n) (placeTests d o (length buffer) ++ tableTests hs (known j d n o) o) e .0) .0) in
         some-in (r .touched) n (ap (λ (ops : List (Option (List Held))). isSome (getD ops n None)) (sym (i .touched)) ∙ open-op)
@@ -254,7 +254,7 @@ flush-inv j d r i = record {
 }
 
 -- a step leaves which blocks live
-wrote-live : (ws : List ℕ) (d e : Blocks) → ByWrote ws (e ≡ d) (λ b. (bs : List ℕ) × (e ≡ set d b (Some bs)) × (length bs ≡ blockSize) × (isLive (block d b) ≡ true)) → (c : ℕ) → isLive (block e c) ≡ isLive (block d c)
+pub wrote-live : (ws : List ℕ) (d e : Blocks) → ByWrote ws (e ≡ d) (λ b. (bs : List ℕ) × (e ≡ set d b (Some bs)) × (length bs ≡ blockSize) × (isLive (block d b) ≡ true)) → (c : ℕ) → isLive (block e c) ≡ isLive (block d c)
 wrote-live [] d e h c = ap (λ (x : Blocks). isLive (block x c)) h
 wrote-live (b ∷ []) d e h c = ap (λ (x : Blocks). isLive (block x c)) (h .1) ∙ live-set d b (h .0) (live-in d b (h .3)) (h .3) c
 wrote-live (b ∷ x ∷ ws) d e h c = absurd h
