@@ -16,3 +16,4 @@ pub mod CommitTold
 pub mod Refusals
 pub mod Ops
 pub mod Run
+pub mod After

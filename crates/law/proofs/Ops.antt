@@ -71,7 +71,7 @@ holding-last (g ∷ gs) h e =
 found-last : (hs : List Held) (h : Held) → isIn hs (h .place) ≡ false → valueIn (hs ++ h ∷ []) (h .place) ≡ Some (h .bytes)
 found-last hs h e = ap (λ gs. valueIn gs (h .place)) (sym (holding-last hs h e)) ∙ held-now hs h
 
-some-in : {X : Type 0} (xs : List (Option X)) (n : ℕ) → isSome (getD xs n None) ≡ true → n < length xs
+pub some-in : {X : Type 0} (xs : List (Option X)) (n : ℕ) → isSome (getD xs n None) ≡ true → n < length xs
 some-in xs n e = ⊎-elim (λ (h : n < length xs). h) (λ (h : length xs ≤ n). let p = getD-past xs n None h in let z : _≡_ {A = ℕ} 0 1 = cc in absurd (omega arith)) (cases-lt n (length xs))
 
 -- ## Calls that change only what an operation holds

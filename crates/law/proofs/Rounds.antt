@@ -375,3 +375,44 @@ install-by None l d k i =
 
 pub install-done : (l : Log) (d : Blocks) → Kept l d → InstallDone l d (installStep l d)
 install-done l d k = install-by (l .installing) l d k (k .installing)
+
+-- ## In which round an installer step works
+
+pub record InstallMoves (r : Round) (l m : Log) : Type 0 where
+  pub moved : ((r .next < r .target) × (m .installing ≡ Some (record { next = r .next + 1; target = r .target })) × (m .start ≡ l .start)) ⊎ ((r .target ≤ r .next) × (m .installing ≡ None) × (m .start ≡ r .target))
+
+install-moves : (l : Log) (d : Blocks) → Kept l d → (r : Round) → Installs (l .start) (l .end) (l .updates) d r → InstallMoves r l (installRound l r d .state)
+install-moves l d k r i = ⊎-elim
+    (λ (more : r .next < r .target).
+      let u = updateAt l (r .next) in
+      let h = installer.here (l .start) (l .end) (l .frozen) (l .updates) (l .homes) d (k .order) (k .card) (k .good) r i more in
+      subst (λ (o : Outcome Log). InstallMoves r l (o .state)) (sym (ap (λ t. cond t (installNext l r d) (installStart l r d)) (lt-ltb (r .next) (r .target) more) ∙
+        writing-granted l d (u .home) (u .bytes) (l .start) (installingAt l (record { next = r .next + 1; target = r .target })) (h .high) (h .alive) (h .full)))
+      (record { moved = inl (more, refl, refl) }))
+    (λ (over : r .target ≤ r .next).
+      subst (λ (o : Outcome Log). InstallMoves r l (o .state)) (sym (ap (λ t. cond t (installNext l r d) (installStart l r d)) (le-ltb (r .next) (r .target) over) ∙
+        writing-granted l d 1 (startBlock (r .target)) (r .target) (startedAt l (r .target)) (omega (arith, k .card .ready .large)) (k .card .ready .alive 1 (omega arith)) (length-start (r .target))))
+      (record { moved = inr (over, refl, refl) }))
+    (cases-lt (r .next) (r .target))
+
+-- the round that runs, else one to end
+abbrev pub installOf : Log → Option Round → Round
+installOf l (Some r) = r
+installOf l None = record { next = l .start; target = l .end }
+
+pub record InstallGoes (l : Log) (x : Option Round) (m : Log) : Type 0 where
+  pub goes : ((x ≡ None) × (m ≡ l) × (l .end ≤ l .start)) ⊎ InstallMoves (installOf l x) l m
+
+install-goes-by : (x : Option Round) (l : Log) (d : Blocks) → Kept l d → IfSome x (Installs (l .start) (l .end) (l .updates) d) → InstallGoes l x (installBy x l d .state)
+install-goes-by (Some r) l d k i = record { goes = inr (install-moves l d k r i) }
+install-goes-by None l d k i =
+    let r : Round = record { next = l .start; target = l .end } in
+    ⊎-elim
+    (λ (a : l .start < l .end).
+      let i₀ : Installs (l .start) (l .end) (l .updates) d r = record { from = omega arith; upto = omega arith; some = a; below = omega arith; home = λ b h. ap (λ j. latest (take j (l .updates)) b (block d b)) (let y : l .start - l .start ≡ 0 = omega arith in y) } in
+      record { goes = inr (subst (λ (q : Bool). InstallMoves r l (cond q (installRound l r d) (answering (l .start) [] l d) .state)) (sym (lt-ltb (l .start) (l .end) a)) (install-moves l d k r i₀)) })
+    (λ (a : l .end ≤ l .start). record { goes = inl (refl, ap (λ q. cond q (installRound l r d) (answering (l .start) [] l d) .state) (le-ltb (l .start) (l .end) a), a) })
+    (cases-lt (l .start) (l .end))
+
+pub install-goes : (l : Log) (d : Blocks) → Kept l d → InstallGoes l (l .installing) (installStep l d .state)
+install-goes l d k = install-goes-by (l .installing) l d k (k .installing)

@@ -68,7 +68,7 @@ answer-told : (x : Option Fault) (buffer : List ℕ) (j : Open) (d : Blocks) (g 
 answer-told None buffer j d g m e = e
 answer-told (Some f) buffer j d g m e = refl
 
-told : (c : Call) (j : Open) (d : Blocks) (r : Record) → Inv j d r → (m : ℕ) → grants c j d .answer ≡ Ok m → Told c (outcome c (Some j) d) d r m
+pub told : (c : Call) (j : Open) (d : Blocks) (r : Record) → Inv j d r → (m : ℕ) → grants c j d .answer ≡ Ok m → Told c (outcome c (Some j) d) d r m
 told c j d r i m e = answer-told (firstOf (testsOf c j d)) (bufferOf c) j d (grants c j d) m e ∙ ap (λ x. asTold x m) (refused-same c j d r i)
 
 unaltered-by : (x : Option Fault) (buffer : List ℕ) (j : Open) (d : Blocks) (g : Outcome Open) (m : ℕ) → g .answer ≡ Ok m →
