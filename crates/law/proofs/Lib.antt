@@ -17,3 +17,4 @@ pub mod Refusals
 pub mod Ops
 pub mod Run
 pub mod After
+pub mod Bounds
