@@ -18,3 +18,4 @@ pub mod Ops
 pub mod Run
 pub mod After
 pub mod Bounds
+pub mod Crash
