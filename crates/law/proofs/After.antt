@@ -46,9 +46,10 @@ module _ (j : Open) (d : Blocks) (r : Record) (i : Inv j d r) (n : ℕ) where
 
   pub read-after : (o : Place) (buffer : List ℕ) → AfterCall (reads n o buffer) (Some j) d (outcome (reads n o buffer) (Some j) d) r (noted (reads n o buffer) (outcome (reads n o buffer) (Some j) d .answer) r)
   read-after o buffer =
-      let c = reads n o buffer in
-      (told c j d r i (width (o .size)) refl,
-      fills o buffer (firstOf (testsOf c j d)) refl ∙ ap (λ x. unless x (valueOr (valueIn (touchedBy (noted c (outcome c (Some j) d .answer) r) n) o) []) buffer) (refused-same c j d r i))
+      let c = reads n o buffer in (
+        told c j d r i (width (o .size)) refl,
+        fills o buffer (firstOf (testsOf c j d)) refl ∙ ap (λ x. unless x (valueOr (valueIn (touchedBy (noted c (outcome c (Some j) d .answer) r) n) o) []) buffer) (refused-same c j d r i),
+      )
 
   -- an open number is one of the record's
   in-record : firstOf (ticketTests j n) ≡ None → n < length (r .touched)

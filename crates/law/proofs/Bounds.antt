@@ -48,14 +48,14 @@ Moved r x before at = ((r .next < r .target) × (x ≡ Some (record { next = r .
 left-step : (p n before at : ℕ) (r : Round) (x : Option Round) → Moved r x before at → Need p (Some r) (1 + n) → Left p at x n
 left-step p n before at r x moved need = ⊎-elim
     (λ (a : (r .next < r .target) × (x ≡ Some (record { next = r .next + 1; target = r .target })) × (at ≡ before)).
-      inr (subst (λ (y : Option Round). Need p y n) (sym (a .1)) (⊎-elim
-        (λ (b : (p ≤ r .target) × (r .target - r .next + 1 ≤ 1 + n)). inl (b .0, omega (arith, a .0, b .1)))
-        (λ (b : r .target - r .next + 64 ≤ 1 + n). inr (omega (arith, a .0)))
-        need)))
+    inr (subst (λ (y : Option Round). Need p y n) (sym (a .1)) (⊎-elim
+    (λ (b : (p ≤ r .target) × (r .target - r .next + 1 ≤ 1 + n)). inl (b .0, omega (arith, a .0, b .1)))
+    (λ (b : r .target - r .next + 64 ≤ 1 + n). inr (omega (arith, a .0)))
+    need)))
     (λ (a : (r .target ≤ r .next) × (x ≡ None) × (at ≡ r .target)). ⊎-elim
-      (λ (b : (p ≤ r .target) × (r .target - r .next + 1 ≤ 1 + n)). inl (omega (arith, a .2, b .0)))
-      (λ (b : r .target - r .next + 64 ≤ 1 + n). inr (subst (λ (y : Option Round). Need p y n) (sym (a .1)) (omega (arith, a .0))))
-      need)
+    (λ (b : (p ≤ r .target) × (r .target - r .next + 1 ≤ 1 + n)). inl (omega (arith, a .2, b .0)))
+    (λ (b : r .target - r .next + 64 ≤ 1 + n). inr (subst (λ (y : Option Round). Need p y n) (sym (a .1)) (omega (arith, a .0))))
+    need)
     moved
 
 need-more : (p : ℕ) (x : Option Round) (m n : ℕ) → m ≤ n → Need p x m → Need p x n
@@ -84,10 +84,10 @@ log-need l d k p n a b None h =
 log-left : (l : Log) (d : Blocks) → Kept l d → (p n : ℕ) (m : Log) → l .end ≤ m .end → p ≤ l .frozen → (x : Option Round) → LogGoes l x m → Left p (l .end) x (1 + n) → Left p (m .end) (m .logging) n
 log-left l d k p n m grows a x g h = ⊎-elim
     (λ (b : l .end < p). ⊎-elim
-      (λ (i : (x ≡ None) × (m ≡ l) × (last l ≤ l .end)). absurd (omega (arith, i .2, k .order .frozen-last)))
-      (λ (mv : Moves (roundOf l x) (working l x) m). left-step p n (working l x .end) (m .end) (roundOf l x) (m .logging) (mv .moved)
-        (log-need l d k p (1 + n) a b x (⊎-elim (λ (z : p ≤ l .end). absurd (omega arith)) (λ (z : Need p x (1 + n)). z) h)))
-      (g .goes))
+    (λ (i : (x ≡ None) × (m ≡ l) × (last l ≤ l .end)). absurd (omega (arith, i .2, k .order .frozen-last)))
+    (λ (mv : Moves (roundOf l x) (working l x) m). left-step p n (working l x .end) (m .end) (roundOf l x) (m .logging) (mv .moved)
+    (log-need l d k p (1 + n) a b x (⊎-elim (λ (z : p ≤ l .end). absurd (omega arith)) (λ (z : Need p x (1 + n)). z) h)))
+    (g .goes))
     (λ (b : p ≤ l .end). inl (omega arith))
     (cases-lt (l .end) p)
 
@@ -108,10 +108,10 @@ install-need l d k p n a b None h = inl (a, omega (arith, k .order .end-frozen, 
 install-left : (l : Log) (d : Blocks) → Kept l d → (p n : ℕ) (m : Log) → l .start ≤ m .start → p ≤ l .end → (x : Option Round) → InstallGoes l x m → Left p (l .start) x (1 + n) → Left p (m .start) (m .installing) n
 install-left l d k p n m grows a x g h = ⊎-elim
     (λ (b : l .start < p). ⊎-elim
-      (λ (i : (x ≡ None) × (m ≡ l) × (l .end ≤ l .start)). absurd (omega (arith, i .2)))
-      (λ (mv : InstallMoves (installOf l x) l m). left-step p n (l .start) (m .start) (installOf l x) (m .installing) (mv .moved)
-        (install-need l d k p (1 + n) a b x (⊎-elim (λ (z : p ≤ l .start). absurd (omega arith)) (λ (z : Need p x (1 + n)). z) h)))
-      (g .goes))
+    (λ (i : (x ≡ None) × (m ≡ l) × (l .end ≤ l .start)). absurd (omega (arith, i .2)))
+    (λ (mv : InstallMoves (installOf l x) l m). left-step p n (l .start) (m .start) (installOf l x) (m .installing) (mv .moved)
+    (install-need l d k p (1 + n) a b x (⊎-elim (λ (z : p ≤ l .start). absurd (omega arith)) (λ (z : Need p x (1 + n)). z) h)))
+    (g .goes))
     (λ (b : p ≤ l .start). inl (omega arith))
     (cases-lt (l .start) p)
 
@@ -128,11 +128,11 @@ start-grows : (l : Log) (d : Blocks) → Kept l d → (m : Log) → InstallGoes 
 start-grows l d k m g = ⊎-elim
     (λ (a : (l .installing ≡ None) × (m ≡ l) × (l .end ≤ l .start)). let e = ap (λ (z : Log). z .start) (a .1) in omega arith)
     (λ (mv : InstallMoves (installOf l (l .installing)) l m).
-      let r = installOf l (l .installing) in
-      ⊎-elim
-      (λ (a : (r .next < r .target) × (m .installing ≡ Some (record { next = r .next + 1; target = r .target })) × (m .start ≡ l .start)). omega (arith, a .2))
-      (λ (a : (r .target ≤ r .next) × (m .installing ≡ None) × (m .start ≡ r .target)). let t = target-high l d k (l .installing) (k .installing) in omega (arith, a .2))
-      (mv .moved))
+    let r = installOf l (l .installing) in
+    ⊎-elim
+    (λ (a : (r .next < r .target) × (m .installing ≡ Some (record { next = r .next + 1; target = r .target })) × (m .start ≡ l .start)). omega (arith, a .2))
+    (λ (a : (r .target ≤ r .next) × (m .installing ≡ None) × (m .start ≡ r .target)). let t = target-high l d k (l .installing) (k .installing) in omega (arith, a .2))
+    (mv .moved))
     (g .goes)
 
 -- ## Every call

@@ -58,18 +58,18 @@ dirty-among (h ∷ hs) seen b un =
     let x = h .place .block in
     ⊎-elim
     (λ t.
-      let d = both-first (h .dirty) (not (among x seen)) t in
-      ap (among b) (dirty-takes h hs seen t) ∙
-      ⊎-elim
-      (λ (same : b ≡ x). ap (λ q. either q (among b (dirtyBlocks hs (x ∷ seen)))) (eq-eqb b x same) ∙ sym (ap (λ q. either q (among b (blocksOf (dirtyOnes hs)))) (eq-eqb b x same)))
-      (λ ne. ap (either (eqb b x)) (dirty-among hs (x ∷ seen) b (ap (λ q. either q (among b seen)) (ne-eqb b x ne) ∙ un)))
-      (cases-eq b x) ∙
-      sym (ap (λ q. among b (blocksOf (cond q (h ∷ dirtyOnes hs) (dirtyOnes hs)))) d))
+    let d = both-first (h .dirty) (not (among x seen)) t in
+    ap (among b) (dirty-takes h hs seen t) ∙
+    ⊎-elim
+    (λ (same : b ≡ x). ap (λ q. either q (among b (dirtyBlocks hs (x ∷ seen)))) (eq-eqb b x same) ∙ sym (ap (λ q. either q (among b (blocksOf (dirtyOnes hs)))) (eq-eqb b x same)))
+    (λ ne. ap (either (eqb b x)) (dirty-among hs (x ∷ seen) b (ap (λ q. either q (among b seen)) (ne-eqb b x ne) ∙ un)))
+    (cases-eq b x) ∙
+    sym (ap (λ q. among b (blocksOf (cond q (h ∷ dirtyOnes hs) (dirtyOnes hs)))) d))
     (λ s. ap (among b) (dirty-skips h hs seen s) ∙ dirty-among hs seen b un ∙
-      ⊎-elim
-      (λ d. among-skip b x (blocksOf (dirtyOnes hs)) seen un (same-both (h .dirty) (among x seen) s d) ∙ sym (ap (λ q. among b (blocksOf (cond q (h ∷ dirtyOnes hs) (dirtyOnes hs)))) d))
-      (λ c. sym (ap (λ q. among b (blocksOf (cond q (h ∷ dirtyOnes hs) (dirtyOnes hs)))) c))
-      (split (h .dirty)))
+    ⊎-elim
+    (λ d. among-skip b x (blocksOf (dirtyOnes hs)) seen un (same-both (h .dirty) (among x seen) s d) ∙ sym (ap (λ q. among b (blocksOf (cond q (h ∷ dirtyOnes hs) (dirtyOnes hs)))) d))
+    (λ c. sym (ap (λ q. among b (blocksOf (cond q (h ∷ dirtyOnes hs) (dirtyOnes hs)))) c))
+    (split (h .dirty)))
     (split (picks h hs seen))
 
 pub among-append : (b : ℕ) (xs ys : List ℕ) → among b (xs ++ ys) ≡ either (among b xs) (among b ys)
@@ -175,10 +175,10 @@ module _ (first : Area) (commits : List Commit) (l : Log) (d : Blocks) (k : Kept
   shows-new b = ⊎-elim
       (λ live. Committed.new-shows l d k far hs g b live)
       (λ dead.
-        let n : latest (l .updates) b (block d b) ≡ None = latest-none (l .updates) b (block d b) (dead-home (l .updates) d b all-good dead) ∙ dead-none (block d b) dead in
-        let out : among b blocks ≡ false = ⊎-elim (λ e. absurd (clash (isLive (block d b)) (every-among _ blocks b (Committed.dirty-live l d k far hs g) e .2) dead)) (λ e. e) (split (among b blocks)) in
-        merged-latest hs d (l .frozen - l .start) blocks (l .updates) (omega (arith, k .order .frozen-last)) (dirty-distinct hs []) far b ∙
-        ap (λ q. cond q (Some (laidIn hs b (bytesOr (latest (l .updates) b (block d b)) []))) (latest (l .updates) b (block d b))) out ∙ n ∙ sym (ap (mapped (laidIn hs b)) n))
+      let n : latest (l .updates) b (block d b) ≡ None = latest-none (l .updates) b (block d b) (dead-home (l .updates) d b all-good dead) ∙ dead-none (block d b) dead in
+      let out : among b blocks ≡ false = ⊎-elim (λ e. absurd (clash (isLive (block d b)) (every-among _ blocks b (Committed.dirty-live l d k far hs g) e .2) dead)) (λ e. e) (split (among b blocks)) in
+      merged-latest hs d (l .frozen - l .start) blocks (l .updates) (omega (arith, k .order .frozen-last)) (dirty-distinct hs []) far b ∙
+      ap (λ q. cond q (Some (laidIn hs b (bytesOr (latest (l .updates) b (block d b)) []))) (latest (l .updates) b (block d b))) out ∙ n ∙ sym (ap (mapped (laidIn hs b)) n))
       (split (isLive (block d b)))
 
   all-bounded : Every (AtMost m) (commits ++ c ∷ [])

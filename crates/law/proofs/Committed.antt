@@ -76,15 +76,15 @@ pub laidIn-none : (hs : List Held) (seen : List ℕ) (b : ℕ) (bs : List ℕ) �
 laidIn-none [] seen b bs out un = refl
 laidIn-none (h ∷ hs) seen b bs out un = ⊎-elim
     (λ t.
-      let f = either-false (eqb b (h .place .block)) (among b (dirtyBlocks hs (h .place .block ∷ seen))) (sym (ap (among b) (dirty-takes h hs seen t)) ∙ out) in
-      let other : eqb (h .place .block) b ≡ false = ne-eqb (h .place .block) b (λ s. let z = eq-eqb b (h .place .block) (sym s) in let y : _≡_ {A = ℕ} 0 1 = cc in omega arith) in
-      ap (laidIn hs b) (laid-skip (h .dirty) (eqb (h .place .block) b) (laid (h .place) (h .bytes) bs) bs (both-off (h .dirty) (eqb (h .place .block) b) (λ d. other))) ∙
-      laidIn-none hs (h .place .block ∷ seen) b bs (f .1) (ap (λ q. either q (among b seen)) (f .0) ∙ un))
+    let f = either-false (eqb b (h .place .block)) (among b (dirtyBlocks hs (h .place .block ∷ seen))) (sym (ap (among b) (dirty-takes h hs seen t)) ∙ out) in
+    let other : eqb (h .place .block) b ≡ false = ne-eqb (h .place .block) b (λ s. let z = eq-eqb b (h .place .block) (sym s) in let y : _≡_ {A = ℕ} 0 1 = cc in omega arith) in
+    ap (laidIn hs b) (laid-skip (h .dirty) (eqb (h .place .block) b) (laid (h .place) (h .bytes) bs) bs (both-off (h .dirty) (eqb (h .place .block) b) (λ d. other))) ∙
+    laidIn-none hs (h .place .block ∷ seen) b bs (f .1) (ap (λ q. either q (among b seen)) (f .0) ∙ un))
     (λ s.
-      let rest = sym (ap (among b) (dirty-skips h hs seen s)) ∙ out in
-      ap (laidIn hs b) (laid-skip (h .dirty) (eqb (h .place .block) b) (laid (h .place) (h .bytes) bs) bs
-        (both-off (h .dirty) (eqb (h .place .block) b) (λ d. ne-eqb (h .place .block) b (λ same. dirty-seen (h .dirty) (among (h .place .block) seen) d s (not-among b (h .place .block) seen un (sym same)))))) ∙
-      laidIn-none hs seen b bs rest un)
+    let rest = sym (ap (among b) (dirty-skips h hs seen s)) ∙ out in
+    ap (laidIn hs b) (laid-skip (h .dirty) (eqb (h .place .block) b) (laid (h .place) (h .bytes) bs) bs
+    (both-off (h .dirty) (eqb (h .place .block) b) (λ d. ne-eqb (h .place .block) b (λ same. dirty-seen (h .dirty) (among (h .place .block) seen) d s (not-among b (h .place .block) seen un (sym same)))))) ∙
+    laidIn-none hs seen b bs rest un)
     (either-cases (picks h hs seen))
 
 -- ## The commit
@@ -155,10 +155,20 @@ module _ (l : Log) (d : Blocks) (k : Kept l d) (far : Distinct (homesOf (drop (l
       live = λ p a b. new-at p a (omega (arith, k .order .end-frozen)) ∙ k .card .live p a b;
     };
     good = new-good;
-    logging = ifSome-map (l .logging) (λ r g. record { from = g .from; upto = g .upto; some = g .some; below = g .below;
-      logged = λ p a b. g .logged p a b ∙ sym (ap (λ (u : Update). u .bytes) (new-at p (omega (arith, k .order .start-end)) (omega (arith, g .upto, g .below)))) }) (k .logging);
-    installing = ifSome-map (l .installing) (λ r i. record { from = i .from; upto = i .upto; some = i .some; below = i .below;
-      home = λ b h. ap (λ (vs : List Update). latest vs b (block d b)) (new-take (r .next - l .start) (omega (arith, i .upto, i .below, k .order .end-frozen))) ∙ i .home b h }) (k .installing);
+    logging = ifSome-map (l .logging) (λ r g. record {
+      from = g .from;
+      upto = g .upto;
+      some = g .some;
+      below = g .below;
+      logged = λ p a b. g .logged p a b ∙ sym (ap (λ (u : Update). u .bytes) (new-at p (omega (arith, k .order .start-end)) (omega (arith, g .upto, g .below))));
+    }) (k .logging);
+    installing = ifSome-map (l .installing) (λ r i. record {
+      from = i .from;
+      upto = i .upto;
+      some = i .some;
+      below = i .below;
+      home = λ b h. ap (λ (vs : List Update). latest vs b (block d b)) (new-take (r .next - l .start) (omega (arith, i .upto, i .below, k .order .end-frozen))) ∙ i .home b h;
+    }) (k .installing);
   }
 
   -- every data block shows its dirty objects, laid on what it showed

@@ -237,14 +237,22 @@ module _ (d : Blocks) (w : Whole d) (s : Sound d) where
 
 along : (es : List Event) (j : Open) (d : Blocks) (r : Record) → Inv j d r → Along es (Some j) d r
 along [] j d r i = standing j d r i
-along (call c ∷ es) j d r i = (standing j d r i, λ p.
-    ((after c j d r i, (call-unaltered c j d r i, call-writes c j d r i)),
-    along es (called c j d .state) (called c j d .disk) (noted c (called c j d .answer) r) (call-inv c j d r i)))
-along (cut broken left ∷ es) j d r i = (standing j d r i, λ p.
-    let f = found broken left j d r i p in
-    (after-cut left r f,
-    subst (λ (o : Outcome View). Along es (o .state) (o .disk) (reopened (endOn left) r)) (sym (kept-opening (f .log) left (f .kept)))
-    (along es (openedWith (durablePart (f .log))) left (reopened (endOn left) r) (reopened-inv left r f))))
+along (call c ∷ es) j d r i = (
+  standing j d r i,
+  λ p. (
+    (after c j d r i, (call-unaltered c j d r i, call-writes c j d r i)),
+    along es (called c j d .state) (called c j d .disk) (noted c (called c j d .answer) r) (call-inv c j d r i),
+  ),
+)
+along (cut broken left ∷ es) j d r i = (
+  standing j d r i,
+  λ p.
+      let f = found broken left j d r i p in (
+        after-cut left r f,
+        subst (λ (o : Outcome View). Along es (o .state) (o .disk) (reopened (endOn left) r)) (sym (kept-opening (f .log) left (f .kept)))
+            (along es (openedWith (durablePart (f .log))) left (reopened (endOn left) r) (reopened-inv left r f)),
+      ),
+)
 
 pub crash-law : Crash-law
 crash-law d e w ok =

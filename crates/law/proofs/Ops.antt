@@ -219,11 +219,11 @@ log-far j d r i =
     let same = Told.reach-same (r .first) (r .commits) l d (i .kept) (r .ended) (r .reached) (r .flushed) (r .settled) (i .told) in
     ⊎-elim
     (λ (a : r .ended < r .settled).
-      let e : m .frozen ≡ l .frozen = f ∙ ap (λ q. cond q (r .reached) (r .settled)) (lt-leb (r .settled) (r .ended) a) ∙ sym (i .told .at-settled) in
-      subst Distinct (sym (ap (λ n. homesOf (drop (n - m .start) (m .updates))) e ∙ ap (λ n. homesOf (drop (l .frozen - n) (m .updates))) (h .start) ∙ ap (λ (us : List Update). homesOf (drop (l .frozen - l .start) us)) (h .updates))) (i .far))
+    let e : m .frozen ≡ l .frozen = f ∙ ap (λ q. cond q (r .reached) (r .settled)) (lt-leb (r .settled) (r .ended) a) ∙ sym (i .told .at-settled) in
+    subst Distinct (sym (ap (λ n. homesOf (drop (n - m .start) (m .updates))) e ∙ ap (λ n. homesOf (drop (l .frozen - n) (m .updates))) (h .start) ∙ ap (λ (us : List Update). homesOf (drop (l .frozen - l .start) us)) (h .updates))) (i .far))
     (λ (a : r .settled ≤ r .ended).
-      let e : m .frozen ≡ r .reached = f ∙ ap (λ q. cond q (r .reached) (r .settled)) (le-leb (r .settled) (r .ended) a) in
-      subst Distinct (sym (settled-none m (omega (arith, i .told .at-reached)))) tt)
+    let e : m .frozen ≡ r .reached = f ∙ ap (λ q. cond q (r .reached) (r .settled)) (le-leb (r .settled) (r .ended) a) in
+    subst Distinct (sym (settled-none m (omega (arith, i .told .at-reached)))) tt)
     (cases-lt (r .ended) (r .settled))
 
 pub commit-inv : (j : Open) (d : Blocks) (r : Record) → Inv j d r → (n : ℕ) → firstOf (testsOf (commits n) j d) ≡ None →
@@ -241,7 +241,7 @@ commit-inv j d r i n e =
       tables = tables-set (j .operations) d (i .tables) n None tt;
       touched = ap (λ (ops : List (Option (List Held))). set ops n None) (i .touched);
       told = subst (λ (hs₂ : List Held). LogTold (withUpdates l us) d (r .first) (r .commits ++ record { position = l .start + length us; objects = dirtyOnes hs₂ } ∷ []) (r .ended) (l .start + length us) (r .flushed) (r .settled)) (held-touched j d r i n)
-        (CommitTold.commit-told (r .first) (r .commits) l d (i .kept) (i .far) gs g (r .ended) (r .reached) (r .flushed) (r .settled) (i .told));
+          (CommitTold.commit-told (r .first) (r .commits) l d (i .kept) (i .far) gs g (r .ended) (r .reached) (r .flushed) (r .settled) (i .told));
     }
 
 pub flush-inv : (j : Open) (d : Blocks) (r : Record) → Inv j d r → Inv (withLog j (frozenAt (j .log) (last (j .log)))) d (granted flushes (last (j .log)) r)

@@ -99,23 +99,23 @@ count-step : (x : ℕ) (hs gs : List Held) (S B C : List ℕ) → ((b : ℕ) →
     length (cond (not (among x S)) (x ∷ dirtyBlocks gs (x ∷ S)) (dirtyBlocks gs S)) ≡ count (cond (not (among x B)) (x ∷ dirtyBlocks hs (x ∷ B)) (dirtyBlocks hs B)) C
 count-step x hs gs S B C same rest = ⊎-elim
     (λ (seen : among x B ≡ true).
-      let s : among x S ≡ true = same x ∙ ap (λ q. either q (among x C)) seen in
-      ap (λ q. length (cond (not q) (x ∷ dirtyBlocks gs (x ∷ S)) (dirtyBlocks gs S))) s ∙ rest S B same ∙
-      sym (ap (λ q. count (cond (not q) (x ∷ dirtyBlocks hs (x ∷ B)) (dirtyBlocks hs B)) C) seen))
+    let s : among x S ≡ true = same x ∙ ap (λ q. either q (among x C)) seen in
+    ap (λ q. length (cond (not q) (x ∷ dirtyBlocks gs (x ∷ S)) (dirtyBlocks gs S))) s ∙ rest S B same ∙
+    sym (ap (λ q. count (cond (not q) (x ∷ dirtyBlocks hs (x ∷ B)) (dirtyBlocks hs B)) C) seen))
     (λ (new : among x B ≡ false). ⊎-elim
-      (λ (old : among x C ≡ true).
-        let s : among x S ≡ true = same x ∙ ap (λ q. either q (among x C)) new ∙ old in
-        ap (λ q. length (cond (not q) (x ∷ dirtyBlocks gs (x ∷ S)) (dirtyBlocks gs S))) s ∙
-        rest S (x ∷ B) (λ b. widen b x (among b B) (among b C) (same b) (λ e. subst (λ (n : ℕ). among n C ≡ true) (sym e) old)) ∙
-        sym (ap (λ q. count (cond (not q) (x ∷ dirtyBlocks hs (x ∷ B)) (dirtyBlocks hs B)) C) new ∙ (let z : _≡_ {A = ℕ} (cond (among x C) 0 1) 0 = ap (λ q. cond q 0 1) old in omega arith)))
-      (λ (fresh : among x C ≡ false).
-        let s : among x S ≡ false = same x ∙ ap (λ q. either q (among x C)) new ∙ fresh in
-        ap (λ q. length (cond (not q) (x ∷ dirtyBlocks gs (x ∷ S)) (dirtyBlocks gs S))) s ∙
-        (let i = rest (x ∷ S) (x ∷ B) (λ b. ap (either (eqb b x)) (same b) ∙ sym (either-assoc (eqb b x) (among b B) (among b C))) in
-        let z : _≡_ {A = ℕ} (cond (among x C) 0 1) 1 = ap (λ q. cond q 0 1) fresh in
-        let w : suc (length (dirtyBlocks gs (x ∷ S))) ≡ cond (among x C) 0 1 + count (dirtyBlocks hs (x ∷ B)) C = omega arith in w) ∙
-        sym (ap (λ q. count (cond (not q) (x ∷ dirtyBlocks hs (x ∷ B)) (dirtyBlocks hs B)) C) new))
-      (split (among x C)))
+    (λ (old : among x C ≡ true).
+    let s : among x S ≡ true = same x ∙ ap (λ q. either q (among x C)) new ∙ old in
+    ap (λ q. length (cond (not q) (x ∷ dirtyBlocks gs (x ∷ S)) (dirtyBlocks gs S))) s ∙
+    rest S (x ∷ B) (λ b. widen b x (among b B) (among b C) (same b) (λ e. subst (λ (n : ℕ). among n C ≡ true) (sym e) old)) ∙
+    sym (ap (λ q. count (cond (not q) (x ∷ dirtyBlocks hs (x ∷ B)) (dirtyBlocks hs B)) C) new ∙ (let z : _≡_ {A = ℕ} (cond (among x C) 0 1) 0 = ap (λ q. cond q 0 1) old in omega arith)))
+    (λ (fresh : among x C ≡ false).
+    let s : among x S ≡ false = same x ∙ ap (λ q. either q (among x C)) new ∙ fresh in
+    ap (λ q. length (cond (not q) (x ∷ dirtyBlocks gs (x ∷ S)) (dirtyBlocks gs S))) s ∙
+    (let i = rest (x ∷ S) (x ∷ B) (λ b. ap (either (eqb b x)) (same b) ∙ sym (either-assoc (eqb b x) (among b B) (among b C))) in
+    let z : _≡_ {A = ℕ} (cond (among x C) 0 1) 1 = ap (λ q. cond q 0 1) fresh in
+    let w : suc (length (dirtyBlocks gs (x ∷ S))) ≡ cond (among x C) 0 1 + count (dirtyBlocks hs (x ∷ B)) C = omega arith in w) ∙
+    sym (ap (λ q. count (cond (not q) (x ∷ dirtyBlocks hs (x ∷ B)) (dirtyBlocks hs B)) C) new))
+    (split (among x C)))
     (split (among x B))
 
 count-entry : (t : Bool) (h : Held) (hs : List Held) (S B C : List ℕ) → h .dirty ≡ t → ((b : ℕ) → among b S ≡ either (among b B) (among b C)) →

@@ -219,23 +219,25 @@ pub record LogGoes (l : Log) (o : Option Round) (m : Log) : Type 0 where
 goes-none : (l : Log) (d : Blocks) → Kept l d → LogGoes l None (logBy None l d .state)
 goes-none l d k = ⊎-elim
     (λ (a : l .end < l .frozen).
-      let t = lt-ltb (l .end) (l .frozen) a in
-      let r : Round = record { next = l .end; target = l .frozen } in
-      record { goes = inr (subst (λ (q : Bool). Moves (record { next = l .end; target = cond q (l .frozen) (last l) }) (cond q l (frozenAt l (last l))) (cond q (logRound l l r d) (logLast l d) .state)) (sym t) (round-moves l l d k r (fresh l d (l .frozen) a (omega arith)))) })
+    let t = lt-ltb (l .end) (l .frozen) a in
+    let r : Round = record { next = l .end; target = l .frozen } in
+    record { goes = inr (subst (λ (q : Bool). Moves (record { next = l .end; target = cond q (l .frozen) (last l) }) (cond q l (frozenAt l (last l))) (cond q (logRound l l r d) (logLast l d) .state)) (sym t) (round-moves l l d k r (fresh l d (l .frozen) a (omega arith)))) })
     (λ (a : l .frozen ≤ l .end).
-      let t = le-ltb (l .end) (l .frozen) a in
-      let m = frozenAt l (last l) in
-      let r : Round = record { next = l .end; target = last l } in
-      let q : Round = record { next = l .end; target = l .frozen } in
-      ⊎-elim
-      (λ (b : l .end < last l).
-        let u = lt-ltb (l .end) (last l) b in
-        record { goes = inr (subst (λ (x : Bool). Moves (record { next = l .end; target = cond x (l .frozen) (last l) }) (cond x l m) (cond x (logRound l l q d) (logLast l d) .state)) (sym t)
-          (subst (λ (x : Bool). Moves r m (cond x (logRound l m r d) (answering (l .end) [] l d) .state)) (sym u) (round-moves l m d (flush-kept l d k) r (fresh m d (last l) b (omega arith))))) })
-      (λ (b : last l ≤ l .end).
-        let u = le-ltb (l .end) (last l) b in
-        record { goes = inl (refl, ap (λ x. cond x (logRound l l q d) (logLast l d) .state) t ∙ ap (λ x. cond x (logRound l m r d) (answering (l .end) [] l d) .state) u, b) })
-      (cases-lt (l .end) (last l)))
+    let t = le-ltb (l .end) (l .frozen) a in
+    let m = frozenAt l (last l) in
+    let r : Round = record { next = l .end; target = last l } in
+    let q : Round = record { next = l .end; target = l .frozen } in
+    ⊎-elim
+    (λ (b : l .end < last l).
+    let u = lt-ltb (l .end) (last l) b in
+    record {
+      goes = inr (subst (λ (x : Bool). Moves (record { next = l .end; target = cond x (l .frozen) (last l) }) (cond x l m) (cond x (logRound l l q d) (logLast l d) .state)) (sym t)
+          (subst (λ (x : Bool). Moves r m (cond x (logRound l m r d) (answering (l .end) [] l d) .state)) (sym u) (round-moves l m d (flush-kept l d k) r (fresh m d (last l) b (omega arith)))));
+    })
+    (λ (b : last l ≤ l .end).
+    let u = le-ltb (l .end) (last l) b in
+    record { goes = inl (refl, ap (λ x. cond x (logRound l l q d) (logLast l d) .state) t ∙ ap (λ x. cond x (logRound l m r d) (answering (l .end) [] l d) .state) u, b) })
+    (cases-lt (l .end) (last l)))
     (cases-lt (l .end) (l .frozen))
 
 log-goes-by : (o : Option Round) (l : Log) (d : Blocks) → Kept l d → IfSome o (Logs (l .start) (l .end) (l .frozen) (l .updates) d) → LogGoes l o (logBy o l d .state)
@@ -384,15 +386,15 @@ pub record InstallMoves (r : Round) (l m : Log) : Type 0 where
 install-moves : (l : Log) (d : Blocks) → Kept l d → (r : Round) → Installs (l .start) (l .end) (l .updates) d r → InstallMoves r l (installRound l r d .state)
 install-moves l d k r i = ⊎-elim
     (λ (more : r .next < r .target).
-      let u = updateAt l (r .next) in
-      let h = installer.here (l .start) (l .end) (l .frozen) (l .updates) (l .homes) d (k .order) (k .card) (k .good) r i more in
-      subst (λ (o : Outcome Log). InstallMoves r l (o .state)) (sym (ap (λ t. cond t (installNext l r d) (installStart l r d)) (lt-ltb (r .next) (r .target) more) ∙
-        writing-granted l d (u .home) (u .bytes) (l .start) (installingAt l (record { next = r .next + 1; target = r .target })) (h .high) (h .alive) (h .full)))
-      (record { moved = inl (more, refl, refl) }))
+    let u = updateAt l (r .next) in
+    let h = installer.here (l .start) (l .end) (l .frozen) (l .updates) (l .homes) d (k .order) (k .card) (k .good) r i more in
+    subst (λ (o : Outcome Log). InstallMoves r l (o .state)) (sym (ap (λ t. cond t (installNext l r d) (installStart l r d)) (lt-ltb (r .next) (r .target) more) ∙
+    writing-granted l d (u .home) (u .bytes) (l .start) (installingAt l (record { next = r .next + 1; target = r .target })) (h .high) (h .alive) (h .full)))
+    (record { moved = inl (more, refl, refl) }))
     (λ (over : r .target ≤ r .next).
-      subst (λ (o : Outcome Log). InstallMoves r l (o .state)) (sym (ap (λ t. cond t (installNext l r d) (installStart l r d)) (le-ltb (r .next) (r .target) over) ∙
-        writing-granted l d 1 (startBlock (r .target)) (r .target) (startedAt l (r .target)) (omega (arith, k .card .ready .large)) (k .card .ready .alive 1 (omega arith)) (length-start (r .target))))
-      (record { moved = inr (over, refl, refl) }))
+    subst (λ (o : Outcome Log). InstallMoves r l (o .state)) (sym (ap (λ t. cond t (installNext l r d) (installStart l r d)) (le-ltb (r .next) (r .target) over) ∙
+    writing-granted l d 1 (startBlock (r .target)) (r .target) (startedAt l (r .target)) (omega (arith, k .card .ready .large)) (k .card .ready .alive 1 (omega arith)) (length-start (r .target))))
+    (record { moved = inr (over, refl, refl) }))
     (cases-lt (r .next) (r .target))
 
 -- the round that runs, else one to end
@@ -409,8 +411,8 @@ install-goes-by None l d k i =
     let r : Round = record { next = l .start; target = l .end } in
     ⊎-elim
     (λ (a : l .start < l .end).
-      let i₀ : Installs (l .start) (l .end) (l .updates) d r = record { from = omega arith; upto = omega arith; some = a; below = omega arith; home = λ b h. ap (λ j. latest (take j (l .updates)) b (block d b)) (let y : l .start - l .start ≡ 0 = omega arith in y) } in
-      record { goes = inr (subst (λ (q : Bool). InstallMoves r l (cond q (installRound l r d) (answering (l .start) [] l d) .state)) (sym (lt-ltb (l .start) (l .end) a)) (install-moves l d k r i₀)) })
+    let i₀ : Installs (l .start) (l .end) (l .updates) d r = record { from = omega arith; upto = omega arith; some = a; below = omega arith; home = λ b h. ap (λ j. latest (take j (l .updates)) b (block d b)) (let y : l .start - l .start ≡ 0 = omega arith in y) } in
+    record { goes = inr (subst (λ (q : Bool). InstallMoves r l (cond q (installRound l r d) (answering (l .start) [] l d) .state)) (sym (lt-ltb (l .start) (l .end) a)) (install-moves l d k r i₀)) })
     (λ (a : l .end ≤ l .start). record { goes = inl (refl, ap (λ q. cond q (installRound l r d) (answering (l .start) [] l d) .state) (le-ltb (l .start) (l .end) a), a) })
     (cases-lt (l .start) (l .end))
 

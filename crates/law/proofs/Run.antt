@@ -144,9 +144,10 @@ module _ (j j′ : Open) (d d′ : Blocks) (r r′ : Record) (i : Inv j d r) (i�
   pub same-reads : SameReads (Some j) d (Some j′) d′
   same-reads n o buffer =
       let t = same-tests n o buffer in
-      let c = reads n o buffer in
-      (answer-told (firstOf (testsOf c j d)) buffer j d (grants c j d) (width (o .size)) refl ∙ ap (λ ts. asTold (firstOf ts) (width (o .size))) t ∙ sym (answer-told (firstOf (testsOf c j′ d′)) buffer j′ d′ (grants c j′ d′) (width (o .size)) refl),
-      fills (firstOf (testsOf c j d)) buffer (seen j d n o) (seen j′ d′ n o) (grants c j d) (grants c j′ d′) refl refl (same-seen n o buffer) ∙ ap (λ ts. decided (firstOf ts) buffer j′ d′ (grants c j′ d′) .buffer) t)
+      let c = reads n o buffer in (
+        answer-told (firstOf (testsOf c j d)) buffer j d (grants c j d) (width (o .size)) refl ∙ ap (λ ts. asTold (firstOf ts) (width (o .size))) t ∙ sym (answer-told (firstOf (testsOf c j′ d′)) buffer j′ d′ (grants c j′ d′) (width (o .size)) refl),
+        fills (firstOf (testsOf c j d)) buffer (seen j d n o) (seen j′ d′ n o) (grants c j d) (grants c j′ d′) refl refl (same-seen n o buffer) ∙ ap (λ ts. decided (firstOf ts) buffer j′ d′ (grants c j′ d′) .buffer) t,
+      )
 
 -- ## Steps
 
@@ -169,16 +170,18 @@ module _ (j : Open) (d : Blocks) (r : Record) (i : Inv j d r) where
   pub log-after : AfterCall logs (Some j) d (outcome logs (Some j) d) r (noted logs (outcome logs (Some j) d .answer) r)
   log-after =
       let h = log-done l d (i .kept) in
-      let o = logStep l d in
-      (h .answer ∙ ap Ok (h .kept .card .at-end),
-      subst (λ (n : ℕ). ByWrote (o .wrote) (endOn d ≡ n) (LogsAt d n (o .disk))) (i .told .at-reached) (h .places),
-      h .homes,
-      same-reads j (withLog j (o .state)) d (o .disk) r (granted logs (o .state .end) r) i (log-inv j d r i) refl (Told₂.wrote-length (o .wrote) d (o .disk) (h .writes)) (wrote-live (o .wrote) d (o .disk) (h .writes)) log-newest)
+      let o = logStep l d in (
+        h .answer ∙ ap Ok (h .kept .card .at-end),
+        subst (λ (n : ℕ). ByWrote (o .wrote) (endOn d ≡ n) (LogsAt d n (o .disk))) (i .told .at-reached) (h .places),
+        h .homes,
+        same-reads j (withLog j (o .state)) d (o .disk) r (granted logs (o .state .end) r) i (log-inv j d r i) refl (Told₂.wrote-length (o .wrote) d (o .disk) (h .writes)) (wrote-live (o .wrote) d (o .disk) (h .writes)) log-newest,
+      )
 
   pub install-after : AfterCall installs (Some j) d (outcome installs (Some j) d) r (noted installs (outcome installs (Some j) d .answer) r)
   install-after =
       let h = install-done l d (i .kept) in
-      let o = installStep l d in
-      (h .answer ∙ ap Ok (h .kept .card .at-start),
-      h .places,
-      same-reads j (withLog j (o .state)) d (o .disk) r r i (install-inv j d r i) refl (Told₂.wrote-length (o .wrote) d (o .disk) (h .writes)) (wrote-live (o .wrote) d (o .disk) (h .writes)) install-newest)
+      let o = installStep l d in (
+        h .answer ∙ ap Ok (h .kept .card .at-start),
+        h .places,
+        same-reads j (withLog j (o .state)) d (o .disk) r r i (install-inv j d r i) refl (Told₂.wrote-length (o .wrote) d (o .disk) (h .writes)) (wrote-live (o .wrote) d (o .disk) (h .writes)) install-newest,
+      )

@@ -181,12 +181,12 @@ module _ (first : Area) (commits : List Commit) where
     changed-still : (b : ℕ) → among b (openHomes m) ≡ among b (changedAbove settled′ commits)
     changed-still b = ⊎-elim
         (λ (h : ended < settled).
-          let s : settled′ ≡ settled = ap (λ q. cond q reached settled) (lt-leb settled ended h) in
-          ap (among b) (ap (λ n. homesOf (drop (n - m .start) (m .updates))) (frozen-is ∙ s ∙ sym (t .at-settled)) ∙ ap (λ n. homesOf (drop (l .frozen - n) (m .updates))) (done .start) ∙ ap (λ (us : List Update). homesOf (drop (l .frozen - l .start) us)) (done .updates)) ∙
-          t .changed b ∙ ap (λ n. among b (changedAbove n commits)) (sym s))
+        let s : settled′ ≡ settled = ap (λ q. cond q reached settled) (lt-leb settled ended h) in
+        ap (among b) (ap (λ n. homesOf (drop (n - m .start) (m .updates))) (frozen-is ∙ s ∙ sym (t .at-settled)) ∙ ap (λ n. homesOf (drop (l .frozen - n) (m .updates))) (done .start) ∙ ap (λ (us : List Update). homesOf (drop (l .frozen - l .start) us)) (done .updates)) ∙
+        t .changed b ∙ ap (λ n. among b (changedAbove n commits)) (sym s))
         (λ (h : settled ≤ ended).
-          let s : settled′ ≡ reached = ap (λ q. cond q reached settled) (le-leb settled ended h) in
-          ap (among b) (settled-none m (omega (arith, frozen-is, s, reach-same, t .at-reached)) ∙ sym (changed-none reached commits (t .bounded)) ∙ ap (λ n. changedAbove n commits) (sym s)))
+        let s : settled′ ≡ reached = ap (λ q. cond q reached settled) (le-leb settled ended h) in
+        ap (among b) (settled-none m (omega (arith, frozen-is, s, reach-same, t .at-reached)) ∙ sym (changed-none reached commits (t .bounded)) ∙ ap (λ n. changedAbove n commits) (sym s)))
         (cases-lt ended settled)
 
     pub log-told : LogTold m (o .disk) first commits (max ended (m .end)) reached flushed settled′
