@@ -1,6 +1,0 @@
-use mathlib.Core.Path.{refl}
-use Rattle.worked.proofs.Worked.{worked-examples}
-use Rattle.worked.proofs.worked_examples.Needs as need
-
-pub returns : need.returns
-returns c = record { count = refl; shown = worked-examples }
