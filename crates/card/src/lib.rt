@@ -1,4 +1,6 @@
 // The blocks of the card: where things lie, and the bytes of the two blocks that hold positions.
+#![tactic(auto)]
+
 ghost use Rattle.std.specs.Prelude.{◌≡◌, ℕ, ◌^◌, ◌<◌, map, length, slice_index};
 ghost use Rattle.card.specs.Bytes.{all_zero, field};
 ghost use Rattle.card.specs.Layout.{slots, slot as slot_of, log_block, homes_in, header_block, start_block, header_in, start_in, home_in, SlotsDiffer};

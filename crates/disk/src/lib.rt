@@ -1,4 +1,6 @@
 // Disks of 512-byte blocks: what every disk keeps, and four makes of disk.
+#![tactic(auto)]
+
 ghost use Rattle.std.specs.Prelude.{◌≡◌, ℕ, length};
 ghost use Rattle.disk.specs.Meaning.{Blocks, Whole, refusal, answered, filled, written, counted};
 

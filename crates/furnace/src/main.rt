@@ -1,4 +1,6 @@
 // A furnace that keeps its settings on a card: it stores them, loses power in the middle of the next change, and finds them whole.
+#![tactic(auto)]
+
 mod days;
 mod melt;
 mod runs;

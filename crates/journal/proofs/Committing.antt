@@ -19,11 +19,11 @@ use Rattle.model.specs.Outcomes.{decided, value_unless, passed}
 use Rattle.model.specs.Calls.{operation, held_by, with_log, with_operation, ticket_tests, tests_of, committing, called, commits}
 use Rattle.model.proofs.Tests.{value_ok, goes_on, halts, none_first, none_both}
 use Rattle.law.proofs.Commits.{dirty_distinct}
-use Rattle.log.specs.declared.state.Log.{Log}
-use Rattle.log.specs.Ring.{row_at}
-use Rattle.log.specs.View.{view}
-use Rattle.log.specs.Updates.{settled, fresh, added_all, update_for}
-use Rattle.log.proofs.Merging.{merged_is, all_length}
+use Rattle.journal_log.specs.declared.state.Log.{Log}
+use Rattle.journal_log.specs.Ring.{row_at}
+use Rattle.journal_log.specs.View.{view}
+use Rattle.journal_log.specs.Updates.{settled, fresh, added_all, update_for}
+use Rattle.journal_log.proofs.Merging.{merged_is, all_length}
 use Rattle.journal.specs.Commit.{updates_of}
 
 -- the updates below frozen are there

@@ -13,8 +13,8 @@ use Rattle.model.specs.declared.Fault.TheVariants.{Ticket}
 use Rattle.model.specs.Outcomes.{Outcome, decided, answering, refused_by, value_unless}
 use Rattle.model.specs.Journal.{Open}
 use Rattle.model.specs.Calls.{Call, reads, overwrites, buffer_of, called, operation, held_by, with_operation, reading, grants}
-use Rattle.log.specs.declared.state.Log.{Log}
-use Rattle.log.specs.View.{view}
+use Rattle.journal_log.specs.declared.state.Log.{Log}
+use Rattle.journal_log.specs.View.{view}
 use Rattle.operation.specs.declared.table.Table.{Table}
 use Rattle.operation.specs.Table.{objects}
 use Rattle.journal.specs.View.{tables_of, opened}

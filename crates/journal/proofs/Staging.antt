@@ -10,7 +10,7 @@ use Rattle.model.specs.Log.{Log}
 use Rattle.model.specs.Operations.{bytes_tests}
 use Rattle.model.specs.Outcomes.{value_unless}
 use Rattle.model.proofs.Tests.{goes_on, halts}
-use Rattle.log.specs.Updates.{update_for}
+use Rattle.journal_log.specs.Updates.{update_for}
 
 -- vs are the updates of the first i of the blocks, none of which is dead
 pub record Ready (l : Log) (d : Blocks) (hs : List Held) (bs : List ℕ) (i : ℕ) (vs : List Update) : Type 0 where

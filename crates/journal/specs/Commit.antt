@@ -5,7 +5,7 @@ use Rattle.card.specs.declared.Update.{Update}
 use Rattle.model.specs.Journal.{Open}
 use Rattle.model.specs.Calls.{held_by}
 use Rattle.model.specs.Operations.{dirty_blocks}
-use Rattle.log.specs.Updates.{update_for}
+use Rattle.journal_log.specs.Updates.{update_for}
 use Rattle.journal.specs.declared.staged.Staged.{Staged}
 
 -- the updates made ready, in order

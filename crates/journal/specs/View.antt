@@ -5,10 +5,10 @@ use Rattle.disk.specs.Meaning.{Blocks}
 use Rattle.object.specs.Tables.{Held}
 use Rattle.operation.specs.declared.table.Table.{Table}
 use Rattle.operation.specs.Table.{objects}
-use Rattle.log.specs.declared.state.Log.{Log}
-use Rattle.log.specs.declared.steps.Step.{Step}
-use Rattle.log.specs.View.{view as log_view}
-use Rattle.log.specs.Steps.{block_told}
+use Rattle.journal_log.specs.declared.state.Log.{Log}
+use Rattle.journal_log.specs.declared.steps.Step.{Step}
+use Rattle.journal_log.specs.View.{view as log_view}
+use Rattle.journal_log.specs.Steps.{block_told}
 use Rattle.model.specs.declared.Fault.{Fault}
 use Rattle.model.specs.Journal as model
 use Rattle.model.specs.Journal.{View, shut, format, opening}

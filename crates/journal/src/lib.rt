@@ -1,4 +1,6 @@
 // The journal of a card: objects that change together or not at all, whatever moment the power fails.
+#![tactic(auto)]
+
 ghost use Rattle.std.specs.Prelude.{◌≡◌, ℕ, OnOk};
 ghost use Rattle.std.specs.Option.{option_map};
 ghost use Rattle.model.specs.Outcomes.{writes_after};
@@ -18,8 +20,8 @@ mod ticket;
 mod touch;
 
 use disk::Disk;
-use log::Log;
-pub use log::Step;
+use journal_log::Log;
+pub use journal_log::Step;
 use model::Fault;
 pub use opened::OPERATIONS;
 use opened::Open;
@@ -122,7 +124,7 @@ impl<D: Disk> Journal<D> {
         ensures writes { D.Disk.writes self.new.disk ≡ writes_after (format_outcome (view self.old) (D.Disk.blocks self.old.disk)) (D.Disk.writes self.old.disk) }
         ensures again { OnOk result (FormatAgain (D.Disk.blocks self.old.disk)) }
     {
-        log::format(&mut self.disk)?;
+        journal_log::format(&mut self.disk)?;
         Ok(0)
     }
 

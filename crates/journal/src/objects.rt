@@ -11,12 +11,12 @@ ghost use Rattle.object.specs.Laws.{Placed};
 ghost use Rattle.object.specs.Tables.{most_held, is_in, holding};
 ghost use Rattle.model.specs.Outcomes.{passed, value_unless};
 ghost use Rattle.model.specs.Steps.{newest};
-ghost use Rattle.log.specs.View.{view as log_view};
+ghost use Rattle.journal_log.specs.View.{view as log_view};
 ghost use Rattle.operation.specs.Table.{objects, as_fault};
 ghost use Rattle.journal.specs.Touch.{held_tests, seen_by, read_into, read_tests, overwrite_tests};
 
 use disk::{BLOCK, Disk};
-use log::Log;
+use journal_log::Log;
 use model::Fault;
 use object::{ObjectFault, Place};
 use operation::{Table, check_bit, check_place};

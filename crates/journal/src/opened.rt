@@ -1,7 +1,7 @@
 // An open journal: its log, and what each operation holds.
 ghost use Rattle.std.specs.Prelude.{◌≡◌, length};
 
-use log::Log;
+use journal_log::Log;
 use operation::Table;
 
 // How many operations there may be.

@@ -8,7 +8,7 @@ ghost use Rattle.journal.specs.View.{view, view_of, stepped_to, stepped_on};
 use crate::Journal;
 use crate::opened::Open;
 use disk::Disk;
-use log::Step;
+use journal_log::Step;
 use model::Fault;
 
 impl<D: Disk> Journal<D> {

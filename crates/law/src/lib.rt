@@ -1,4 +1,6 @@
 // What holds of every run of a journal, and its proof.
+#![tactic(auto)]
+
 ghost use Rattle.std.specs.Prelude.{◌≡◌};
 ghost use Rattle.law.specs.Law.{bound as bound_of_steps, CrashLaw};
 

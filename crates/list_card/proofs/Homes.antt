@@ -8,10 +8,10 @@ use Rattle.std.proofs.lemmas.Bool.{le-ltb, lt-leb, cases_eq}
 use Rattle.disk.specs.Meaning.{Blocks}
 use Rattle.card.specs.declared.Update.{Update}
 use Rattle.card.specs.Layout.{start_on, end_on, update_on}
-use Rattle.log.specs.declared.state.Log.{Log as Memory}
-use Rattle.log.specs.Ring.{absent, row_at, rows_from}
-use Rattle.log.specs.View.{home_of as home_at}
-use Rattle.log.specs.View.{view as log_view}
+use Rattle.journal_log.specs.declared.state.Log.{Log as Memory}
+use Rattle.journal_log.specs.Ring.{absent, row_at, rows_from}
+use Rattle.journal_log.specs.View.{home_of as home_at}
+use Rattle.journal_log.specs.View.{view as log_view}
 use Rattle.journal.specs.declared.opened.Open.{Open}
 use Rattle.journal.specs.View.{view_of}
 use Rattle.model.specs.Log.{Log, log_on}

@@ -3,8 +3,8 @@ use Rattle.std.specs.Prelude.{ℕ, ◌-◌, List, map, length, take, Some, None,
 use Rattle.std.specs.Option.{option_map}
 use Rattle.disk.specs.Meaning.{Blocks}
 use Rattle.card.specs.declared.Update.{Update}
-use Rattle.log.specs.declared.state.Log.{Log as Memory}
-use Rattle.log.specs.Ring.{rows_from}
+use Rattle.journal_log.specs.declared.state.Log.{Log as Memory}
+use Rattle.journal_log.specs.Ring.{rows_from}
 use Rattle.model.specs.declared.Fault.{Fault}
 use Rattle.model.specs.Faults.{number, place}
 use Rattle.model.specs.Journal.{Open, View, shut, opening}

@@ -8,7 +8,7 @@ ghost use Rattle.list_card.specs.Listing.{told, listed, row_homes, live_told};
 use card::SLOTS;
 use disk::{Disk, PlainCard};
 use journal::Journal;
-use log::Log;
+use journal_log::Log;
 use std::fmt;
 
 // The live positions and their homes.

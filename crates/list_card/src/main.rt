@@ -1,4 +1,6 @@
 // Lists a plain card: reads it from standard input, opens a journal on it, and prints what it found in six lines.
+#![tactic(auto)]
+
 mod lists;
 #[cfg(test)]
 mod tests;

@@ -1,4 +1,6 @@
 // What the journal means: its faults, its state, and the outcome of each call. Almost all of it stands in specs/.
+#![tactic(auto)]
+
 ghost use Rattle.std.specs.Prelude.{◌≡◌};
 ghost use Rattle.model.specs.Faults.{number, layer, place, log_number, log_place, log_cause, cause};
 ghost use Rattle.model.specs.declared.LogFault.TheVariants.{Dead};

@@ -1,4 +1,6 @@
 // Objects: parts of a data block, from a bit to the whole block, and why one is refused.
+#![tactic(auto)]
+
 ghost use Rattle.std.specs.Prelude.{◌≡◌};
 ghost use Rattle.object.specs.Faults.{object_number, object_place, object_cause};
 ghost use Rattle.object.specs.declared.ObjectFault.TheVariants.{DeadBlock};

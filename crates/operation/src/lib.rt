@@ -1,4 +1,6 @@
 // Operations: the objects that one has touched, and what is tested of an object before it is touched.
+#![tactic(auto)]
+
 mod blocks;
 mod calls;
 mod dirty;

@@ -1,4 +1,6 @@
 // A disk of one's own, and trials of the journal: what its calls do on examples.
+#![tactic(auto)]
+
 ghost use Rattle.std.specs.Prelude.{◌≡◌, length, Some, None};
 ghost use Rattle.disk.specs.Tests.{unless};
 ghost use Rattle.disk.specs.Meaning.{refusal, answered, written, counted};

@@ -1,4 +1,6 @@
 // Examples worked out by computing, as theorems about the journal's definitions. Each function says how many equations its theorem has.
+#![tactic(auto)]
+
 ghost use Rattle.std.specs.Prelude.{◌≡◌};
 ghost use Rattle.worked.specs.Examples.{WorkedExamples};
 ghost use Rattle.worked.specs.More.{MoreExamples};

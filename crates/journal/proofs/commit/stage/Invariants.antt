@@ -1,4 +1,4 @@
-use Rattle.log.specs.View.{view}
+use Rattle.journal_log.specs.View.{view}
 use Rattle.operation.specs.Table.{objects}
 use Rattle.journal.specs.Commit.{staged_in}
 use Rattle.journal.proofs.Staging.{Ready}

@@ -1,7 +1,7 @@
 use Rattle.std.proofs.Common.{◌≡◌, sym, ap}
 use Rattle.std.proofs.lemmas.Result.{err_from_is_err_and}
 use Rattle.model.specs.Outcomes.{passed}
-use Rattle.log.specs.View.{view}
+use Rattle.journal_log.specs.View.{view}
 use Rattle.operation.specs.Table.{objects}
 use Rattle.operation.proofs.Room.{room_left}
 use Rattle.journal.proofs.Touching.{held_granted, dead_refused}

@@ -6,7 +6,7 @@ use Rattle.model.specs.declared.Fault.TheVariants.{Object}
 use Rattle.model.specs.Outcomes.{value_unless}
 use Rattle.model.specs.Operations.{place_tests}
 use Rattle.model.proofs.Tests.{value_err}
-use Rattle.log.specs.View.{view}
+use Rattle.journal_log.specs.View.{view}
 use Rattle.operation.specs.Table.{objects}
 use Rattle.journal.specs.Touch.{held_tests}
 use Rattle.journal.proofs.Touching.{refused_so, same_way, stopped, went_on}

@@ -5,7 +5,7 @@ use Rattle.disk.proofs.Refusals.{unless_under}
 use Rattle.object.specs.Objects.{width}
 use Rattle.object.specs.Tables.{Held, holding}
 use Rattle.model.specs.Outcomes.{value_unless}
-use Rattle.log.specs.View.{view}
+use Rattle.journal_log.specs.View.{view}
 use Rattle.operation.specs.Table.{objects}
 use Rattle.journal.specs.Touch.{overwritten_by}
 use Rattle.journal.proofs.touch.overwrite_in.Goals as goal

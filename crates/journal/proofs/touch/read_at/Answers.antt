@@ -2,7 +2,7 @@ use Rattle.std.proofs.Common.{◌≡◌, [], length, Some, unwrap_or, sym, refl,
 use Rattle.disk.specs.Tests.{unless}
 use Rattle.object.specs.Objects.{width}
 use Rattle.model.specs.Outcomes.{value_unless}
-use Rattle.log.specs.View.{view}
+use Rattle.journal_log.specs.View.{view}
 use Rattle.journal.specs.View.{opened}
 use Rattle.journal.proofs.Operations.{table_in, none_past}
 use Rattle.model.specs.Calls.{reading}

@@ -4,7 +4,7 @@ use Rattle.disk.specs.Tests.{unless}
 use Rattle.disk.proofs.Refusals.{unless_under}
 use Rattle.object.specs.Objects.{width}
 use Rattle.model.specs.Outcomes.{value_unless}
-use Rattle.log.specs.View.{view}
+use Rattle.journal_log.specs.View.{view}
 use Rattle.operation.specs.Table.{objects}
 use Rattle.journal.specs.Touch.{seen_by, read_into, read_by}
 use Rattle.journal.proofs.touch.read_in.Goals as goal

@@ -1,5 +1,5 @@
 use Rattle.std.proofs.Common.{◌≡◌, ℕ, ◌+◌, ◌-◌, ◌<◌, length, get_or}
-use Rattle.log.specs.Ring.{row_at}
+use Rattle.journal_log.specs.Ring.{row_at}
 use Rattle.list_card.proofs.lists.live_homes.Given as goal
 
 abbrev pub invariant-loop-p : goal.invariant-loop-p

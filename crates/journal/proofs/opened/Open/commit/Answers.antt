@@ -1,6 +1,6 @@
 use Rattle.std.proofs.Common.{Ok, sym, ap, ◌∙◌, arith}
-use Rattle.log.specs.View.{view}
-use Rattle.log.proofs.Stepping.{last_is}
+use Rattle.journal_log.specs.View.{view}
+use Rattle.journal_log.proofs.Stepping.{last_is}
 use Rattle.journal.specs.View.{view_of}
 use Rattle.journal.proofs.Operations.{begun_small}
 use Rattle.journal.proofs.Committing.{is_open, room, commits_state, commits_answer}

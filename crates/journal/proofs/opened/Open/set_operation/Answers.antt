@@ -1,6 +1,6 @@
 use Rattle.std.proofs.Common.{ap}
 use Rattle.model.specs.Journal as model
-use Rattle.log.specs.View.{view}
+use Rattle.journal_log.specs.View.{view}
 use Rattle.std.specs.Option.{option_map}
 use Rattle.std.proofs.lemmas.List.{map-set}
 use Rattle.operation.specs.Table.{objects}
