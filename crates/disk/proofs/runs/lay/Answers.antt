@@ -9,4 +9,4 @@ returns c =
     let at = c.args.at in
     let new = c.args.new.now in
     let n = at + length new - at in
-    ap (put_mid at n bs) c.copy-from-slice.ensures.after ∙ sym (overlaid_is bs at n new (omega arith))
+    ap (put_mid at n bs) c.copy_from_slice.ensures.after ∙ sym (overlaid_is bs at n new (omega arith))

@@ -5,5 +5,5 @@ use Rattle.disk.proofs.plain.PlainCard.locate.Goals as goal
 pub returns : goal.returns
 returns c =
     let buf = c.args.buf.now in
-    let i = c.in-ok-within.ensures in
+    let i = c.in_ok-within.ensures in
     live_cell 512 Some c.args.self.now.bytes.now c.args.block buf (omega arith) i.1 (omega arith) refl (plain_stays buf _ (simp length-take (omega arith)))
