@@ -14,8 +14,8 @@ loop-s-preserved c =
     let s = c.loop-s.s in
     let l : length h.homes ≡ 62 = omega arith in
     let small : get_or h.homes s 0 < 2 ^ 32 = omega arith in
-    let new : c.copy-from-slice-in-loop-s.new.self ≡ to_bytes 4 (get_or h.homes s 0) = c.copy-from-slice-in-loop-s.ensures.after ∙ c.to-le-bytes-in-loop-s.ensures ∙ four_bytes (get_or h.homes s 0) in (
-      ap (λ x. put_mid (8 + 4 * s) (8 + 4 * s + 4 - (8 + 4 * s)) x c.copy-from-slice-in-loop-s.new.self) c.loop-s.invariant.0 ∙ encoded_more h s (omega arith) _ new,
+    let new : c.copy_from_slice-in-loop-s.new.self ≡ to_bytes 4 (get_or h.homes s 0) = c.copy_from_slice-in-loop-s.ensures.after ∙ c.to_le_bytes-in-loop-s.ensures ∙ four_bytes (get_or h.homes s 0) in (
+      ap (λ x. put_mid (8 + 4 * s) (8 + 4 * s + 4 - (8 + 4 * s)) x c.copy_from_slice-in-loop-s.new.self) c.loop-s.invariant.0 ∙ encoded_more h s (omega arith) _ new,
       search (rules, places),
       below_more _ _ c.loop-s.invariant.2 small,
     )

@@ -7,12 +7,12 @@ pub loop-s-preserved : goal.loop-s-preserved
 loop-s-preserved c =
     let hs = c.loop-s.homes in
     let s = c.loop-s.s in
-    let x = c.u32-at.result in
+    let x = c.u32_at.result in
     let l = length-set hs s x in (
       l ∙ c.loop-s.invariant.0,
       below_more _ _
           (λ k h. get_or-set_other hs s k x 0 (omega arith) ∙ c.loop-s.invariant.1 k h)
-          (get_or-set_same hs s x 0 (omega arith) ∙ c.u32-at.ensures),
+          (get_or-set_same hs s x 0 (omega arith) ∙ c.u32_at.ensures),
     )
 
 pub returns : goal.returns
