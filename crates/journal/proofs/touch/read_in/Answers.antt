@@ -18,9 +18,9 @@ returns g c =
     let e = c.in-Some.ensures.value in
     let t = objects c.in-Some.table.now in
     record {
-      answer = c.read_by_lem.ensures.answer ∙ ap (λ s. value_unless (read_by l d o (option_map objects s) n) (width o.size)) e;
-      buffer = c.read_by_lem.ensures.buffer ∙ ap (λ s. unless (read_by l d o (option_map objects s) n) (seen_by l d o (unwrap_or (option_map objects s) [])) c.args.buf.now) e;
+      answer = c.read_by.ensures.answer ∙ ap (λ s. value_unless (read_by l d o (option_map objects s) n) (width o.size)) e;
+      buffer = c.read_by.ensures.buffer ∙ ap (λ s. unless (read_by l d o (option_map objects s) n) (seen_by l d o (unwrap_or (option_map objects s) [])) c.args.buf.now) e;
       slot =
-          ap Some c.read_by_lem.ensures.table ∙ unless_under Some (read_by l d o (Some t) n) (read_into l d o t) t ∙
+          ap Some c.read_by.ensures.table ∙ unless_under Some (read_by l d o (Some t) n) (read_into l d o t) t ∙
           ap (λ s. unless (read_by l d o (option_map objects s) n) (Some (read_into l d o (unwrap_or (option_map objects s) []))) (option_map objects s)) e;
     }

@@ -3,14 +3,14 @@ use Rattle.std.proofs.lemmas.Result.{err_from_is_err_and}
 use Rattle.journal_log.proofs.Fetch.{card_small, card_dead, card_passed}
 use Rattle.journal_log.proofs.card.check_card.Goals as goal
 
-pub returns-then-count-le-HOMES-FROM : goal.returns-then-count-le-HOMES-FROM
-returns-then-count-le-HOMES-FROM g c = card_small (g.D.Disk.blocks c.args.disk.now) c.count.ensures.whole (omega arith)
+pub returns-then-count-le-HOMES_FROM : goal.returns-then-count-le-HOMES_FROM
+returns-then-count-le-HOMES_FROM g c = card_small (g.D.Disk.blocks c.args.disk.now) c.count.ensures.whole (omega arith)
 
-pub returns-in-err-fetch : goal.returns-in-err-fetch
-returns-in-err-fetch g c =
+pub returns-in_err-fetch : goal.returns-in_err-fetch
+returns-in_err-fetch g c =
     let d = g.D.Disk.blocks c.args.disk.now in
-    let p = err_from_is_err_and c.from-residual.result c.from-residual.ensures.1 in
-    let e = card_dead d c.count.ensures.whole c.loop-block.block c.in-err-fetch.field-0.0 (omega arith) (omega arith) c.loop-block.invariant c.in-err-fetch.ensures in
+    let p = err_from_is_err_and c.from_residual.result c.from_residual.ensures.1 in
+    let e = card_dead d c.count.ensures.whole c.loop-block.block c.in_err-fetch.field-0.0 (omega arith) (omega arith) c.loop-block.invariant c.in_err-fetch.ensures in
     rw (p.1, p.2) e
 
 pub returns : goal.returns

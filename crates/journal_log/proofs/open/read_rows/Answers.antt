@@ -12,8 +12,8 @@ loop-p-preserved g c =
     let h = c.args.head.now in
     let p = c.loop-p.p in
     let rows = c.loop-p.ring.rows in
-    let u : Update = record { home = c.home-of-home.result; bytes = c.in-ok-bytes.bytes } in
-    let is = row_read d c.requires.ready p c.log-block.result c.home-of-home.result c.in-ok-bytes.bytes (c.home-of-home.ensures ∙ head_home d h c.requires.head p) c.log-block.ensures c.in-ok-bytes.ensures in
+    let u : Update = record { home = c.home_of-home.result; bytes = c.in_ok-bytes.bytes } in
+    let is = row_read d c.requires.ready p c.log_block.result c.home_of-home.result c.in_ok-bytes.bytes (c.home_of-home.ensures ∙ head_home d h c.requires.head p) c.log_block.ensures c.in_ok-bytes.ensures in
     let s = ap (λ (x : Head). x.start) c.requires.head in
     let e = ap (λ (x : Head). x.header.end) c.requires.head in
     let room : p < h.start + slots = omega (arith, c.requires.room) in (
@@ -21,8 +21,8 @@ loop-p-preserved g c =
       λ q a b. ap (λ rs. row_at rs q) c.put.ensures ∙ rows_more d rows h.start p u c.loop-p.invariant.0 (omega arith) room is c.loop-p.invariant.1 q a b,
     )
 
-pub returns-in-err-bytes : goal.returns-in-err-bytes
-returns-in-err-bytes g c = absurd (row_granted (g.D.Disk.blocks c.args.disk.now) c.requires.ready c.loop-p.p c.log-block.result c.in-err-bytes.field-0.0 c.log-block.ensures c.in-err-bytes.ensures)
+pub returns-in_err-bytes : goal.returns-in_err-bytes
+returns-in_err-bytes g c = absurd (row_granted (g.D.Disk.blocks c.args.disk.now) c.requires.ready c.loop-p.p c.log_block.result c.in_err-bytes.field-0.0 c.log_block.ensures c.in_err-bytes.ensures)
 
 pub returns : goal.returns
 returns g c =

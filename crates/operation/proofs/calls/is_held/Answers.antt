@@ -4,4 +4,4 @@ use Rattle.operation.proofs.Found.{held_told}
 use Rattle.operation.proofs.calls.is_held.Goals as goal
 
 pub returns : goal.returns
-returns c = c.is-some.ensures ∙ held_told c.args.place.now (map held_in c.args.held.now) c.position.result c.position.ensures
+returns c = c.is_some.ensures ∙ held_told c.args.place.now (map held_in c.args.held.now) c.position.result c.position.ensures

@@ -13,11 +13,11 @@ returns-in-Some c =
     ap (λ rows. with_updates (view l) (rows_from rows l.start (l.last - l.start))) c.put.ensures ∙
     sym (ap (with_updates (view l)) (added_at l.ring.rows l.ring.long l.start l.frozen l.last c.args.update (omega arith) (omega arith) (omega arith) c.in-Some.p at.from at.live at.home at.before))
 
-pub invariant-of-self-in-None : goal.invariant-of-self-in-None
-invariant-of-self-in-None c =
+pub invariant_of-self-in-None : goal.invariant_of-self-in-None
+invariant_of-self-in-None c =
     let l = c.args.self.now in
     let longer = added_longer l.ring.rows l.ring.long l.start l.frozen l.last c.args.update (omega arith) (omega arith) (omega arith) c.in-None.ensures in
-    ((l.order.0, l.order.1, omega arith), (omega (arith, c.requires.slots), (omega (arith, c.requires.top), (l.logged, (l.installed, tt)))))
+    record { order = (l.order.0, l.order.1, omega arith); room = omega (arith, c.requires.slots); top = omega (arith, c.requires.top); logged = l.logged; installed = l.installed }
 
 pub returns-in-None : goal.returns-in-None
 returns-in-None c =

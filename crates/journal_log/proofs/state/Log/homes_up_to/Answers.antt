@@ -15,7 +15,7 @@ pub loop-p-preserved : goal.loop-p-preserved
 loop-p-preserved c =
     let l = c.args.self.now in
     let p = c.loop-p.p in
-    c.put-home.ensures ∙
+    c.put_home.ensures ∙
     ap (λ hs. set hs (slot p) c.at.result.now.home) c.loop-p.invariant ∙
     ap (λ (u : Update). set (homes_to l.homes l.ring.rows l.end p) (slot p) u.home) c.at.ensures ∙
     sym (homes_more l.homes l.ring.rows l.end p c.loop-p.auto.p)

@@ -14,8 +14,8 @@ loop-block-preserved c =
     let us = drop (settled (view l)) (view l).updates in
     let more = fresh_more c.args.blocks.now us i c.loop-block-test.true in
     elim c.match-absorbing.branch [
-      | in-Some w ↦ (let e : ◌≡◌ {A = ℕ} (cond (has_home us b) 0 1) 0 = ap (λ t. cond t 0 1) (absorbs_at l b w.in-Some.field-0 w.in-Some.ensures) in (omega (arith, w.last_is), omega (arith, w.last_is)))
-      | in-None w ↦ (let e : ◌≡◌ {A = ℕ} (cond (has_home us b) 0 1) 1 = ap (λ t. cond t 0 1) (absorbs_none l b w.in-None.ensures) in (omega (arith, w.last_is), omega (arith, w.last_is)))
+      | in-Some w ↦ (let e : ◌≡◌ {A = ℕ} (cond (has_home us b) 0 1) 0 = ap (λ t. cond t 0 1) (absorbs_at l b w.in-Some.field-0 w.in-Some.ensures) in (omega (arith, w.last-is), omega (arith, w.last-is)))
+      | in-None w ↦ (let e : ◌≡◌ {A = ℕ} (cond (has_home us b) 0 1) 1 = ap (λ t. cond t 0 1) (absorbs_none l b w.in-None.ensures) in (omega (arith, w.last-is), omega (arith, w.last-is)))
     ]
 
 pub returns : goal.returns

@@ -3,15 +3,15 @@ use Rattle.std.proofs.lemmas.Result.{err_from_is_err_and}
 use Rattle.journal_log.proofs.Stepping.{step_refused, step_granted, next_does}
 use Rattle.journal_log.proofs.state.Log.log_next.Goals as goal
 
-pub returns-in-err-write : goal.returns-in-err-write
-returns-in-err-write g c =
+pub returns-in_err-write : goal.returns-in_err-write
+returns-in_err-write g c =
     let l = c.args.self.now in
     let d = g.D.Disk.blocks c.args.disk.now in
-    let p = err_from_is_err_and c.from-residual.result c.from-residual.ensures.1 in
-    rw (p.1, p.2) (step_refused _ _ _ d _ _ _ _ _ _ (next_does l d c.args.round c.args.frozen c.requires.round c.log-block-block.result c.at.result.now c.requires.more c.log-block-block.ensures c.at.ensures) c.write.ensures.blocks c.write.ensures.writes _ c.in-err-write.ensures.answer)
+    let p = err_from_is_err_and c.from_residual.result c.from_residual.ensures.1 in
+    rw (p.1, p.2) (step_refused _ _ _ d _ _ _ _ _ _ (next_does l d c.args.round c.args.frozen c.requires.round c.log_block-block.result c.at.result.now c.requires.more c.log_block-block.ensures c.at.ensures) c.write.ensures.blocks c.write.ensures.writes _ c.in_err-write.ensures.answer)
 
 pub returns : goal.returns
 returns g c =
     let l = c.args.self.now in
     let d = g.D.Disk.blocks c.args.disk.now in
-    step_granted _ _ _ d _ _ _ _ _ _ (next_does l d c.args.round c.args.frozen c.requires.round c.log-block-block.result c.at.result.now c.requires.more c.log-block-block.ensures c.at.ensures) c.write.ensures.blocks c.write.ensures.writes _ refl c.in-ok-write.ensures.answer
+    step_granted _ _ _ d _ _ _ _ _ _ (next_does l d c.args.round c.args.frozen c.requires.round c.log_block-block.result c.at.result.now c.requires.more c.log_block-block.ensures c.at.ensures) c.write.ensures.blocks c.write.ensures.writes _ refl c.in_ok-write.ensures.answer

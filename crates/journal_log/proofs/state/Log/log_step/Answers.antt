@@ -5,10 +5,10 @@ use Rattle.journal_log.proofs.Stepping.{stepped_as, new_round_lem}
 use Rattle.journal_log.proofs.state.Log.log_step.Goals as goal
 
 pub returns-in-Some : goal.returns-in-Some
-returns-in-Some g c = stepped_as (ap (λ r. log_by r (view c.args.self.now) (g.D.Disk.blocks c.args.disk.now)) c.in-Some.is) c.log-round.ensures
+returns-in-Some g c = stepped_as (ap (λ r. log_by r (view c.args.self.now) (g.D.Disk.blocks c.args.disk.now)) c.in-Some.is) c.log_round.ensures
 
-pub returns-in-Some-log-target : goal.returns-in-Some-log-target
-returns-in-Some-log-target g c = stepped_as (new_round_lem c.args.self.now (g.D.Disk.blocks c.args.disk.now) _ c.in-default.is c.in-Some-log-target.ensures.value) c.log-new.ensures
+pub returns-in-Some-log_target : goal.returns-in-Some-log_target
+returns-in-Some-log_target g c = stepped_as (new_round_lem c.args.self.now (g.D.Disk.blocks c.args.disk.now) _ c.in_default.is c.in-Some-log_target.ensures.value) c.log_new.ensures
 
 pub returns-in-None : goal.returns-in-None
-returns-in-None g c = stepped_as (new_round_lem c.args.self.now (g.D.Disk.blocks c.args.disk.now) _ c.in-default.is c.in-None.ensures.value) (record { answer = refl; wrote = refl; log = refl; blocks = refl; writes = refl })
+returns-in-None g c = stepped_as (new_round_lem c.args.self.now (g.D.Disk.blocks c.args.disk.now) _ c.in_default.is c.in-None.ensures.value) (record { answer = refl; wrote = refl; log = refl; blocks = refl; writes = refl })

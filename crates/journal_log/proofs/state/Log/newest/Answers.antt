@@ -8,4 +8,4 @@ pub returns : goal.returns
 returns g c =
     let d = g.D.Disk.blocks c.args.disk.now in
     let b = c.args.block in
-    c.fetch.ensures ∙ newest_own (view c.args.self.now) d b (c.in-default.ensures (block d b))
+    c.fetch.ensures ∙ newest_own (view c.args.self.now) d b (c.in_default.ensures (block d b))

@@ -4,14 +4,14 @@ use Rattle.operation.specs.Held.{is_sound, held_in}
 use Rattle.operation.proofs.Adds.{fresh_stands, fresh_sound, count_held, added, put_sound}
 use Rattle.operation.proofs.table.Table.add.Goals as goal
 
-pub invariant-of-self : goal.invariant-of-self
-invariant-of-self c =
+pub invariant_of-self : goal.invariant_of-self
+invariant_of-self c =
     let s = c.args.self.now in
     let few : s.len ≤ length s.held.items = omega arith in
     let n = count_held s.held.items s.len few in
     let free : s.len < length s.held.items = omega arith in
     let sound = ap is_sound c.new.ensures ∙ fresh_sound c.args.place c.args.value.now c.args.dirty c.requires.placed c.requires.long c.requires.bit in
-    (omega arith, (put_sound s.held.items s.len c.new.result free _ (λ k d h other. s.sound k d (omega arith)) sound, tt))
+    record { few = omega arith; sound = put_sound s.held.items s.len c.new.result free _ (λ k d h other. s.sound k d (omega arith)) sound }
 
 pub returns : goal.returns
 returns c =

@@ -6,14 +6,14 @@ use Rattle.operation.specs.Table.{table_room}
 use Rattle.operation.proofs.Room.{room_told}
 use Rattle.operation.proofs.table.Table.check.Goals as goal
 
-pub returns-then-is-full-for : goal.returns-then-is-full-for
-returns-then-is-full-for c =
+pub returns-then-is_full_for : goal.returns-then-is_full_for
+returns-then-is_full_for c =
     let o = c.args.place in
-    room_told o (map held_in c.entries-held.result.now) true c.if-any-clash.ensures c.if-is-full-for.ensures ∙
+    room_told o (map held_in c.entries-held.result.now) true c.if-any_clash.ensures c.if-is_full_for.ensures ∙
     ap (λ es. passed (first_of (table_room (map held_in es) o))) c.entries-held.ensures
 
 pub returns : goal.returns
 returns c =
     let o = c.args.place in
-    room_told o (map held_in c.entries-held.result.now) false c.if-any-clash.ensures c.if-is-full-for.ensures ∙
+    room_told o (map held_in c.entries-held.result.now) false c.if-any_clash.ensures c.if-is_full_for.ensures ∙
     ap (λ es. passed (first_of (table_room (map held_in es) o))) c.entries-held.ensures

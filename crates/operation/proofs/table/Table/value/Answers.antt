@@ -11,8 +11,8 @@ below c =
     let es = c.entries-held.result.now in
     entry_below c.args.self.now es c.entries-held.ensures c.in-Some.i (found_below c.args.place.now es c.in-Some.i c.in-Some.ensures)
 
-pub offset-bounds-held-i : goal.offset-bounds-held-i
-offset-bounds-held-i c = let l = below c in search rules
+pub offset_bounds-held-i : goal.offset_bounds-held-i
+offset_bounds-held-i c = let l = below c in search rules
 
 pub bounds-held-i : goal.bounds-held-i
 bounds-held-i c = found_below c.args.place.now c.entries-held.result.now c.in-Some.i c.in-Some.ensures
