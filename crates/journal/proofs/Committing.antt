@@ -1,7 +1,7 @@
 -- A commit: what its tests say once an operation is open, and what its updates make of the log.
 use Rattle.std.proofs.Common.{◌≡◌, ℕ, ◌+◌, ◌-◌, ◌≤◌, true, not, ltb, List, [], ◌∷◌, ◌++◌, map, length, drop, is_some, Some, None, Ok, Err, Option, Result, unwrap_or, sym, ap, ◌∙◌, arith}
 use Rattle.std.proofs.lemmas.List.FromFn.{length-map-range_with_len}
-use Rattle.std.proofs.lemmas.Bool.{ltb-false, not_false}
+use Rattle.std.proofs.lemmas.Bool.{ltb-false, not-false}
 use Rattle.disk.specs.Tests.{Test, first_of}
 use Rattle.disk.specs.Meaning.{Blocks}
 use Rattle.object.specs.Tables.{Held}
@@ -94,7 +94,7 @@ module _ (j : Open) (d : Blocks) (n : ℕ) where
     none = none_both (ticket_tests j n) (room_in (held_by j n) ++ bytes_in (held_by j n)) granted
 
     pub is_open : is_some (operation j n) ≡ true
-    is_open = not_false (is_some (operation j n)) (none_first (not (is_some (operation j n)), Ticket) [] none.0).0
+    is_open = not-false (is_some (operation j n)) (none_first (not (is_some (operation j n)), Ticket) [] none.0).0
 
     abbrev all : List Update
     all = added_all (settled j.log) vs j.log.updates

@@ -5,14 +5,14 @@ use Rattle.journal.specs.View.{view, view_of}
 use Rattle.journal.proofs.Views.{is_some_mapped, is_some_not}
 use Rattle.journal.proofs.Journal.check_shut.Goals as goal
 
-pub returns-then-is-some : goal.returns-then-is-some
-returns-then-is-some g c =
+pub returns-then-is_some : goal.returns-then-is_some
+returns-then-is_some g c =
     let j = c.args.self.now in
-    let is = is_some_mapped view_of j.state ∙ sym c.is-some.ensures ∙ c.if-is-some.true in
-    record { state = λ d. (format_open (view j) d is, opening_open (view j) d is); format_order_lem = format_order_lem; opening_order = opening_order }
+    let is = is_some_mapped view_of j.state ∙ sym c.is_some.ensures ∙ c.if-is_some.true in
+    record { state = λ d. (format_open (view j) d is, opening_open (view j) d is); format_order = format_order_lem; opening_order = opening_order }
 
 pub returns : goal.returns
 returns g c =
     let j = c.args.self.now in
-    let is = is_some_mapped view_of j.state ∙ sym c.is-some.ensures ∙ c.if-is-some.false in
-    record { state = is_some_not (view j) is; format_order_lem = format_order_lem; opening_order = opening_order }
+    let is = is_some_mapped view_of j.state ∙ sym c.is_some.ensures ∙ c.if-is_some.false in
+    record { state = is_some_not (view j) is; format_order = format_order_lem; opening_order = opening_order }

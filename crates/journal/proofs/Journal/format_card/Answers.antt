@@ -9,14 +9,14 @@ use Rattle.model.proofs.Tests.{value_ok}
 use Rattle.journal.specs.View.{view}
 use Rattle.journal.proofs.Journal.format_card.Goals as goal
 
-pub returns-in-err-format : goal.returns-in-err-format
-returns-in-err-format g c =
+pub returns-in_err-format : goal.returns-in_err-format
+returns-in_err-format g c =
     let j = c.args.self.now in
     let d = g.D.Disk.blocks j.disk in
     let is = ap is_some c.requires in
-    let p = err_from_is_err_and c.from-residual.result c.from-residual.ensures.1 in
+    let p = err_from_is_err_and c.from_residual.result c.from_residual.ensures.1 in
     record {
-      answer = rw (p.1, p.2) (format_err (view j) d is _ c.in-err-format.ensures.answer);
+      answer = rw (p.1, p.2) (format_err (view j) d is _ c.in_err-format.ensures.answer);
       again = rw p.1 tt;
       state = format_state (view j) d is;
       blocks = format_disk (view j) d is _ c.format.ensures.blocks;
@@ -29,8 +29,8 @@ returns g c =
     let d = g.D.Disk.blocks j.disk in
     let is = ap is_some c.requires in
     record {
-      answer = format_ok (view j) d is c.in-ok-format.ensures.answer;
-      again = format_again d (card_ready d (value_ok (first_of (card_tests d)) tt tt c.in-ok-format.ensures.answer).0);
+      answer = format_ok (view j) d is c.in_ok-format.ensures.answer;
+      again = format_again d (card_ready d (value_ok (first_of (card_tests d)) tt tt c.in_ok-format.ensures.answer).0);
       state = format_state (view j) d is;
       blocks = format_disk (view j) d is _ c.format.ensures.blocks;
       writes = format_writes (view j) d is _ _ c.format.ensures.writes;

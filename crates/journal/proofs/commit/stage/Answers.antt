@@ -7,12 +7,12 @@ pub push-requires : goal.push-requires
 push-requires g c = omega (arith, c.requires, ready_fewer c.loop-block.invariant c.loop-block-test.true)
 
 pub loop-block-preserved : goal.loop-block-preserved
-loop-block-preserved g c = ready_more c.loop-block.invariant c.loop-block-test.true c.in-ok-update-for.field-0 _ c.in-ok-update-for.ensures c.push.ensures
+loop-block-preserved g c = ready_more c.loop-block.invariant c.loop-block-test.true c.in_ok-update_for.field-0 _ c.in_ok-update_for.ensures c.push.ensures
 
-pub returns-in-err-update-for : goal.returns-in-err-update-for
-returns-in-err-update-for g c =
-    let p = err_from_is_err_and c.from-residual.result c.from-residual.ensures.1 in
-    rw (p.1, p.2) (ready_stops c.loop-block.invariant c.loop-block-test.true _ _ c.in-err-update-for.ensures)
+pub returns-in_err-update_for : goal.returns-in_err-update_for
+returns-in_err-update_for g c =
+    let p = err_from_is_err_and c.from_residual.result c.from_residual.ensures.1 in
+    rw (p.1, p.2) (ready_stops c.loop-block.invariant c.loop-block-test.true _ _ c.in_err-update_for.ensures)
 
 pub returns : goal.returns
 returns g c = ready_all c.loop-block.invariant c.loop-block-test.false

@@ -13,16 +13,16 @@ returns-in-Some g c =
     let d = g.D.Disk.blocks c.args.disk.now in
     let o = c.args.place in
     let hs = objects c.args.table.now in
-    let ok = c.in-ok-check.ensures in
+    let ok = c.in_ok-check.ensures in
     record { answer = sym (ap passed (held_granted l d o hs ok _ (sym c.in-Some.ensures))); room = room_left o hs ok }
 
-pub returns-in-err-newest-bytes : goal.returns-in-err-newest-bytes
-returns-in-err-newest-bytes g c =
+pub returns-in_err-newest_bytes : goal.returns-in_err-newest_bytes
+returns-in_err-newest_bytes g c =
     let l = view c.args.log.now in
     let d = g.D.Disk.blocks c.args.disk.now in
     let o = c.args.place in
     let hs = objects c.args.table.now in
-    let told = c.in-err-newest-bytes.ensures in
-    let e = dead_refused l d o hs c.in-ok-check.ensures (sym c.in-default.ensures) told.0 in
-    let p = err_from_is_err_and c.from-residual-in-err-newest-bytes.result c.from-residual-in-err-newest-bytes.ensures.1 in
+    let told = c.in_err-newest_bytes.ensures in
+    let e = dead_refused l d o hs c.in_ok-check.ensures (sym c.in_default.ensures) told.0 in
+    let p = err_from_is_err_and c.from_residual-in_err-newest_bytes.result c.from_residual-in_err-newest_bytes.ensures.1 in
     rw (p.1, p.2, told.1) (record { answer = sym (ap passed e); room = tt })

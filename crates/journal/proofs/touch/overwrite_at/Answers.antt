@@ -31,7 +31,7 @@ returns g c =
     let h : Held = record { place = o; bytes = bs; dirty = true } in
     let e = sym (table_in ts n c.index-operations-number.result (omega arith)) in
     record {
-      answer = c.overwrite-in.ensures.answer ∙ ap (λ t. value_unless (overwritten_by l d o t bs) (width o.size)) e ∙ decided_answer (grants (overwrites n o bs) j d) bs j d (width o.size) refl _;
-      state = slot_set c.args.log.now ts n _ _ (c.overwrite-in.ensures.slot ∙ ap (λ t. unless (overwritten_by l d o t bs) (Some (holding (unwrap_or t []) h)) t) e) ∙ overwritten_state j d n o bs;
+      answer = c.overwrite_in.ensures.answer ∙ ap (λ t. value_unless (overwritten_by l d o t bs) (width o.size)) e ∙ decided_answer (grants (overwrites n o bs) j d) bs j d (width o.size) refl _;
+      state = slot_set c.args.log.now ts n _ _ (c.overwrite_in.ensures.slot ∙ ap (λ t. unless (overwritten_by l d o t bs) (Some (holding (unwrap_or t []) h)) t) e) ∙ overwritten_state j d n o bs;
       four = length-set ts n _ ∙ c.told-operations;
     }

@@ -20,8 +20,8 @@ returns g c =
     let t = objects c.in-Some.table.now in
     let h : Held = record { place = o; bytes = bs; dirty = true } in
     record {
-      answer = c.overwrite-by.ensures.answer ∙ ap (λ s. value_unless (overwritten_by l d o (option_map objects s) bs) (width o.size)) e;
+      answer = c.overwrite_by.ensures.answer ∙ ap (λ s. value_unless (overwritten_by l d o (option_map objects s) bs) (width o.size)) e;
       slot =
-          ap Some c.overwrite-by.ensures.table ∙ unless_under Some (overwritten_by l d o (Some t) bs) (holding t h) t ∙
+          ap Some c.overwrite_by.ensures.table ∙ unless_under Some (overwritten_by l d o (Some t) bs) (holding t h) t ∙
           ap (λ s. unless (overwritten_by l d o (option_map objects s) bs) (Some (holding (unwrap_or (option_map objects s) []) h)) (option_map objects s)) e;
     }

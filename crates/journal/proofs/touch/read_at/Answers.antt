@@ -29,9 +29,9 @@ returns g c =
     let bs = c.args.buf.now in
     let e = sym (table_in ts n c.index-operations-number.result (omega arith)) in
     record {
-      answer = c.read-in.ensures.answer ∙ ap (λ t. value_unless (read_by l d o t (length bs)) (width o.size)) e ∙ decided_answer (reading n o j d) bs j d (width o.size) refl _;
-      buffer = c.read-in.ensures.buffer ∙ ap (λ t. unless (read_by l d o t (length bs)) (seen_by l d o (unwrap_or t [])) bs) e ∙ decided_buffer (reading n o j d) bs j d _;
+      answer = c.read_in.ensures.answer ∙ ap (λ t. value_unless (read_by l d o t (length bs)) (width o.size)) e ∙ decided_answer (reading n o j d) bs j d (width o.size) refl _;
+      buffer = c.read_in.ensures.buffer ∙ ap (λ t. unless (read_by l d o t (length bs)) (seen_by l d o (unwrap_or t [])) bs) e ∙ decided_buffer (reading n o j d) bs j d _;
       state =
-          slot_set c.args.log.now ts n _ _ (c.read-in.ensures.slot ∙ ap (λ t. unless (read_by l d o t (length bs)) (Some (read_into l d o (unwrap_or t []))) t) e) ∙ read_state j d n o bs;
+          slot_set c.args.log.now ts n _ _ (c.read_in.ensures.slot ∙ ap (λ t. unless (read_by l d o t (length bs)) (Some (read_into l d o (unwrap_or t []))) t) e) ∙ read_state j d n o bs;
       four = length-set ts n _ ∙ c.told-operations;
     }

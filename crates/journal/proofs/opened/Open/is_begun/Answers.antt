@@ -6,7 +6,7 @@ use Rattle.journal.proofs.opened.Open.is_begun.Goals as goal
 pub returns-then-number-lt-OPERATIONS : goal.returns-then-number-lt-OPERATIONS
 returns-then-number-lt-OPERATIONS c =
     let o = c.args.self.now in
-    record { value = c.is-some.ensures ∙ begun_in o.operations c.args.number c.index-self-number.result (omega (arith, o.four)); small = λ _. omega arith }
+    record { value = c.is_some.ensures ∙ begun_in o.operations c.args.number c.index-self-number.result (omega (arith, o.four)); small = λ _. omega arith }
 
 pub returns-else-number-lt-OPERATIONS : goal.returns-else-number-lt-OPERATIONS
 returns-else-number-lt-OPERATIONS c =

@@ -10,4 +10,4 @@ returns-then-number-ge-OPERATIONS c =
 pub returns : goal.returns
 returns c =
     let o = c.args.self.now in
-    lent_in o.operations c.args.number c.index-self-number.result c.as-ref.result (omega (arith, o.four)) c.as-ref.ensures.value
+    lent_in o.operations c.args.number c.index-self-number.result c.as_ref.result (omega (arith, o.four)) c.as_ref.ensures.value
