@@ -11,6 +11,6 @@ returns-in-Some g c =
     let seen = c.open.ensures.state ∙ ap (λ v. (opening v d).state) c.requires in
     let n = c.count-blocks.ensures.count ∙ ap (λ x. length (g.D.Disk.blocks x)) c.disk.ensures in
     record {
-      fields = found_listed d c.in-Ok.field-0 ok c.open.new.self.state seen c.count-blocks.result (live_told c.live-homes.result) c.in-Some.log.now n c.in-Some.ensures c.live-homes.ensures;
+      fields = found_listed d c.in-Ok.field-0 ok c.open.new.self.state seen c.count-blocks.result (live_told c.live_homes.result) c.in-Some.log.now n c.in-Some.ensures c.live_homes.ensures;
       disk = c.open.ensures.disk;
     }

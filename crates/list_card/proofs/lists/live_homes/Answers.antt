@@ -8,10 +8,10 @@ pub loop-p-preserved : goal.loop-p-preserved
 loop-p-preserved c =
     let l = c.args.log.now in
     let p = c.loop-p.p in
-    let x = c.unwrap-or.result in
+    let x = c.unwrap_or.result in
     let homes = c.loop-p.homes in
     let s = c.start-start.ensures in
-    let is = c.unwrap-or.ensures ∙ ap (λ o. unwrap_or o 0) c.home-at.ensures ∙ home_live l p (omega arith) (omega arith) in (
+    let is = c.unwrap_or.ensures ∙ ap (λ o. unwrap_or o 0) c.home_at.ensures ∙ home_live l p (omega arith) (omega arith) in (
       length-set homes (p - c.start-start.result) x ∙ c.loop-p.invariant.0,
       λ k h. ap (λ n. get_or (set homes (p - n) x) k 0) s ∙ homes_more l.ring.rows l.start homes p x (omega arith) (omega arith) is c.loop-p.invariant.1 k h,
     )

@@ -7,11 +7,11 @@ pub loop-i-preserved : goal.loop-i-preserved
 loop-i-preserved c =
     let rs = c.loop-i.readings in
     let i = c.loop-i.i in
-    let x = c.word-at.result in (
+    let x = c.word_at.result in (
       length-set rs i x ∙ c.loop-i.invariant.0,
       below_more _ _
           (λ k h. get_or-set_other rs i k x 0 (omega arith) ∙ c.loop-i.invariant.1 k h)
-          (get_or-set_same rs i x 0 (omega arith) ∙ c.word-at.ensures),
+          (get_or-set_same rs i x 0 (omega arith) ∙ c.word_at.ensures),
     )
 
 pub returns : goal.returns

@@ -6,7 +6,7 @@ use Rattle.furnace.proofs.melt.Melt.encode.Goals as goal
 pub loop-i-preserved : goal.loop-i-preserved
 loop-i-preserved c = (
   search rules,
-  below_more _ _ (λ k h. c.put-word.ensures.others k (omega arith) ∙ c.loop-i.invariant.1 k h) c.put-word.ensures.here,
+  below_more _ _ (λ k h. c.put_word.ensures.others k (omega arith) ∙ c.loop-i.invariant.1 k h) c.put_word.ensures.here,
 )
 
 pub returns : goal.returns

@@ -9,11 +9,11 @@ pub loop-i-preserved : goal.loop-i-preserved
 loop-i-preserved c =
     let fs = c.loop-i.firings in
     let i = c.loop-i.i in
-    let f : Firing = record { celsius = c.word-at.result; minutes = c.word-at-in-loop-i.result } in (
+    let f : Firing = record { celsius = c.word_at.result; minutes = c.word_at-in-loop-i.result } in (
       length-set fs i f ∙ c.loop-i.invariant.0,
       below_more _ _
           (λ k h. get_or-set_other fs i k f cold (omega arith) ∙ c.loop-i.invariant.1 k h)
-          (get_or-set_same fs i f cold (omega arith) ∙ firing_is (firing_in c.args.bytes.now i) _ _ c.word-at.ensures c.word-at-in-loop-i.ensures),
+          (get_or-set_same fs i f cold (omega arith) ∙ firing_is (firing_in c.args.bytes.now i) _ _ c.word_at.ensures c.word_at-in-loop-i.ensures),
     )
 
 pub returns : goal.returns
