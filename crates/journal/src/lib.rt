@@ -16,6 +16,8 @@ mod objects;
 mod opened;
 mod staged;
 mod steps;
+#[cfg(test)]
+mod tests;
 mod ticket;
 mod touch;
 

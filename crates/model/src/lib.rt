@@ -7,7 +7,11 @@ ghost use Rattle.model.specs.declared.LogFault.TheVariants.{Dead};
 ghost use Rattle.model.specs.declared.Fault.TheVariants.{Log as InLog, Object as InObject};
 
 use card::HOMES_FROM;
+
+mod laws;
+
 use disk::{DiskFault, Layer};
+pub use laws::{calls_in_order, opening_takes_sound_cards};
 use object::ObjectFault;
 
 // Why the log refuses. A dead block carries the disk's own fault.

@@ -5,9 +5,11 @@ ghost use Rattle.std.specs.Prelude.{◌≡◌};
 ghost use Rattle.object.specs.Faults.{object_number, object_place, object_cause};
 ghost use Rattle.object.specs.declared.ObjectFault.TheVariants.{DeadBlock};
 
+mod laws;
 mod parts;
 
 use disk::DiskFault;
+pub use laws::{bits_of_objects, bytes_of_objects, first_fault, held_at_most, largest_object};
 
 // An object of a data block: where it is and how large, in bits.
 #[derive(Clone, Copy, Debug, PartialEq)]
