@@ -5,7 +5,7 @@ use Rattle.std.proofs.lemmas.Bool.{lt-leb, le-leb}
 use Rattle.disk.specs.declared.fault.DiskFault.{DiskFault}
 use Rattle.disk.specs.declared.fault.DiskFault.TheVariants.{Dead as DeadBlock}
 use Rattle.disk.specs.Tests.{first_of}
-use Rattle.disk.specs.Meaning.{Block, Blocks, Whole, block, is_live, block_size, refusal}
+use Rattle.disk.specs.Meaning.{Block, Blocks, block, is_live, block_size, refusal}
 use Rattle.disk.proofs.Refusals.{inside}
 use Rattle.card.specs.Layout.{homes_from, bytes_on}
 use Rattle.model.specs.declared.LogFault.{LogFault}
@@ -45,22 +45,22 @@ size_passed : (d : Blocks) → homes_from < length d → first_of (size_tests d)
 size_passed d h = ap (λ t. cond t (Some Small) None) (lt-leb (length d) homes_from h)
 
 -- an answer to the check of a card, and what it tells
-refused : (d : Blocks) (f : LogFault) → Whole d → first_of (card_tests d) ≡ Some f → CardChecked d (Err f)
-refused d f w e = record { answer = sym (ap passed e); known = e; whole = w }
+refused : (d : Blocks) (f : LogFault) → first_of (card_tests d) ≡ Some f → CardChecked d (Err f)
+refused d f e = record { answer = sym (ap passed e); known = e }
 
-pub card_small : (d : Blocks) → Whole d → length d ≤ homes_from → CardChecked d (Err Small)
+pub card_small : (d : Blocks) → length d ≤ homes_from → CardChecked d (Err Small)
 unfolding card_tests
-card_small d w h = refused d Small w (ap (λ t. cond t (Some Small) (first_of (map (dead_test d) (range_with_len 0 homes_from)))) (le-leb (length d) homes_from h))
+card_small d h = refused d Small (ap (λ t. cond t (Some Small) (first_of (map (dead_test d) (range_with_len 0 homes_from)))) (le-leb (length d) homes_from h))
 
 -- the first dead block is the place of the refusal
-pub card_dead : (d : Blocks) → Whole d → (b : ℕ) (f : DiskFault) → homes_from < length d → b < homes_from → ((k : ℕ) → k < b → is_live (block d k) ≡ true) → Err f ≡ fetched d b → CardChecked d (Err (Dead f))
+pub card_dead : (d : Blocks) (b : ℕ) (f : DiskFault) → homes_from < length d → b < homes_from → ((k : ℕ) → k < b → is_live (block d k) ≡ true) → Err f ≡ fetched d b → CardChecked d (Err (Dead f))
 unfolding card_tests
-card_dead d w b f large h before e =
+card_dead d b f large h before e =
     let g = fetch_dead d b f (omega arith) e in
-    refused d (Dead f) w
+    refused d (Dead f)
     (past (size_tests d) (map (dead_test d) (range_with_len 0 homes_from)) (size_passed d large) ∙
     first_from (dead_test d) 0 homes_from b (omega arith) (omega arith) (λ q l m. ap not (before q m)) (ap not g.0) ∙
     ap (λ x. Some (Dead x)) (sym g.1))
 
-pub card_passed : (d : Blocks) → Whole d → Ready d → CardChecked d (Ok tt)
-card_passed d w r = let e = ready_card d r in record { answer = sym (ap passed e); known = (e, r); whole = w }
+pub card_passed : (d : Blocks) → Ready d → CardChecked d (Ok tt)
+card_passed d r = let e = ready_card d r in record { answer = sym (ap passed e); known = (e, r) }

@@ -1,6 +1,6 @@
 -- What the log in memory stands for.
 use Rattle.std.specs.Prelude.{◌≡◌, ℕ, ◌-◌, cond, List, Some, None, Ok, Err, Option, Result, nat_le, nat_lt}
-use Rattle.disk.specs.Meaning.{Blocks, Whole, block_size, refusal}
+use Rattle.disk.specs.Meaning.{Blocks, block_size, refusal}
 use Rattle.disk.specs.declared.fault.DiskFault.{DiskFault}
 use Rattle.card.specs.declared.Update.{Update}
 use Rattle.card.specs.Layout.{bytes_on, start_on, header_in}
@@ -20,7 +20,7 @@ abbrev pub log_from : ℕ → ℕ → ℕ → ℕ → List Update → List ℕ �
 log_from start end frozen last rows homes logging installing = record { start = start; end = end; frozen = frozen; updates = rows_from rows start (last - start); homes = homes; logging = logging; installing = installing }
 
 abbrev pub view : Log → model.Log
-view l = log_from l.start l.end l.frozen l.last l.ring.rows l.homes l.logging l.installing
+view l = record { start = l.start; end = l.end; frozen = l.frozen; updates = rows_from l.ring.rows l.start (l.last - l.start); homes = l.homes; logging = l.logging; installing = l.installing }
 
 -- the home of a live position
 abbrev pub home_of : Log → ℕ → Option ℕ
@@ -46,4 +46,3 @@ CardKnown d (Err f) = first_of (card_tests d) ≡ Some f
 pub record CardChecked (d : Blocks) (r : Result (Unit {0}) LogFault) : Type 0 where
   pub answer : r ≡ passed (first_of (card_tests d))
   pub known : CardKnown d r
-  pub whole : Whole d

@@ -5,7 +5,7 @@ ghost use Rattle.model.specs.Card.{Ready};
 ghost use Rattle.model.specs.Outcomes.{passed, after_writes};
 ghost use Rattle.model.specs.Log.{card_tests, formatted};
 
-use crate::card::check_card;
+use crate::fetching::check_card;
 use card::{Header, SLOTS, encode_start};
 use disk::Disk;
 use model::LogFault;

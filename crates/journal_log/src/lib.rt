@@ -1,7 +1,7 @@
 // The log of a journal, over any disk: its state in memory, and how format and opening begin it.
 #![tactic(auto)]
 
-mod card;
+mod fetching;
 mod formatting;
 mod look;
 mod open;

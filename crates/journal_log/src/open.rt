@@ -9,7 +9,7 @@ ghost use Rattle.model.specs.Card.{Ready};
 ghost use Rattle.journal_log.specs.Ring.{row_at};
 ghost use Rattle.journal_log.specs.View.{head_on, viewed};
 
-use crate::card::{check_card, fetch};
+use crate::fetching::{check_card, fetch};
 use crate::ring::Ring;
 use crate::state::Log;
 use card::{

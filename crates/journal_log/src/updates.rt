@@ -8,7 +8,7 @@ ghost use Rattle.model.specs.Steps.{room_tests, with_updates, added};
 ghost use Rattle.journal_log.specs.View.{view};
 ghost use Rattle.journal_log.specs.Updates.{settled, in_log, newest_read, in_fault, fresh as fresh_of, Absorbing, added_all};
 
-use crate::card::fetch;
+use crate::fetching::fetch;
 use crate::state::Log;
 use card::{HIGHEST, SLOTS, Update};
 use disk::{BLOCK, Disk, DiskFault};

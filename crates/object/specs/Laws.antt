@@ -1,6 +1,6 @@
 -- What holds of objects, of tables and of faults, whatever the definitions say inside.
 use Rattle.std.specs.Prelude.{◌≡◌, ℕ, ◌+◌, ◌-◌, ◌/◌, ◌%◌, ◌^◌, ◌<◌, ◌≤◌, true, false, cond, ◌⊎◌, List, [], ◌∷◌, ◌++◌, map, length, is_some, Some, None, Decides, filter, slice_index}
-use Rattle.std.specs.List.{AllByRecursion as All}
+use Rattle.std.specs.List.{AllByRecursion}
 use Rattle.disk.specs.declared.fault.DiskFault.{DiskFault}
 use Rattle.disk.specs.Faults.{disk_place}
 use Rattle.object.specs.declared.Place.{Place}
@@ -121,11 +121,11 @@ HeldFound = (hs : List Held) (o : Place) → is_in hs o ≡ is_some (value_in hs
 
 -- with no clash, each object held is the one asked for or has no bit in common with it
 abbrev pub NoClash : Type 0
-NoClash = (hs : List Held) (o : Place) → Placed o → All (λ (h : Held). Placed h.place) hs → clashes hs o ≡ false → All (λ (h : Held). (h.place ≡ o) ⊎ (overlap h.place o ≡ false)) hs
+NoClash = (hs : List Held) (o : Place) → Placed o → AllByRecursion (λ (h : Held). Placed h.place) hs → clashes hs o ≡ false → AllByRecursion (λ (h : Held). (h.place ≡ o) ⊎ (overlap h.place o ≡ false)) hs
 
 -- and with one, some object held has a bit in common, and another size
 abbrev pub Clash : Type 0
-Clash = (hs : List Held) (o : Place) → clashes hs o ≡ true → All (λ (h : Held). overlap h.place o ≡ true → h.place.size ≡ o.size) hs → ⊥
+Clash = (hs : List Held) (o : Place) → clashes hs o ≡ true → AllByRecursion (λ (h : Held). overlap h.place o ≡ true → h.place.size ≡ o.size) hs → ⊥
 
 abbrev pub DirtyOnly : Type 0
 DirtyOnly = (hs : List Held) → dirty_ones hs ≡ filter (λ (h : Held). h.dirty) hs

@@ -12,17 +12,17 @@ use Rattle.journal_log.proofs.state.Log.open.Goals as goal
 pub returns-in_err-check_card : goal.returns-in_err-check_card
 returns-in_err-check_card g c =
     let p = err_from_is_err_and c.from_residual.result c.from_residual.ensures.1 in
-    rw (p.1, p.2) (record { whole = c.check_card.ensures.whole; log = open_refused_0 (g.D.Disk.blocks c.args.disk.now) _ c.in_err-check_card.ensures.answer })
+    rw (p.1, p.2) (record { whole = c.check_card.ensures.whole; log = open_refused_0 (g.D.Disk.blocks c.args.disk.now) _ c.in_err-check_card.ensures.checked.answer })
 
 pub read_head-requires : goal.read_head-requires
 read_head-requires g c =
     let d = g.D.Disk.blocks c.args.disk.now in
-    c.in_ok-check_card.ensures.known.1
+    c.in_ok-check_card.ensures.checked.known.1
 
 pub returns-in_err-head : goal.returns-in_err-head
 returns-in_err-head g c =
     let p = err_from_is_err_and c.from_residual-in_err-head.result c.from_residual-in_err-head.ensures.1 in
-    rw (p.1, p.2) (record { whole = c.check_card.ensures.whole; log = open_refused_1 (g.D.Disk.blocks c.args.disk.now) c.in_ok-check_card.ensures.answer _ c.in_err-head.ensures })
+    rw (p.1, p.2) (record { whole = c.check_card.ensures.whole; log = open_refused_1 (g.D.Disk.blocks c.args.disk.now) c.in_ok-check_card.ensures.checked.answer _ c.in_err-head.ensures })
 
 pub check_homes-requires : goal.check_homes-requires
 check_homes-requires g c = let d = g.D.Disk.blocks c.args.disk.now in (value_ok (first_of (head_tests d)) (head_on d) _ c.in_ok-head.ensures).1
@@ -30,13 +30,13 @@ check_homes-requires g c = let d = g.D.Disk.blocks c.args.disk.now in (value_ok 
 pub returns-in_err-check_homes : goal.returns-in_err-check_homes
 returns-in_err-check_homes g c =
     let p = err_from_is_err_and c.from_residual-in_err-check_homes.result c.from_residual-in_err-check_homes.ensures.1 in
-    rw (p.1, p.2) (record { whole = c.check_card.ensures.whole; log = open_refused_2 (g.D.Disk.blocks c.args.disk.now) c.in_ok-check_card.ensures.answer _ c.in_ok-head.ensures _ c.in_err-check_homes.ensures })
+    rw (p.1, p.2) (record { whole = c.check_card.ensures.whole; log = open_refused_2 (g.D.Disk.blocks c.args.disk.now) c.in_ok-check_card.ensures.checked.answer _ c.in_ok-head.ensures _ c.in_err-check_homes.ensures })
 
 pub read_rows-requires : goal.read_rows-requires
 read_rows-requires g c =
     let d = g.D.Disk.blocks c.args.disk.now in
     let v = value_ok (first_of (head_tests d)) (head_on d) _ c.in_ok-head.ensures in
-    record { ready = c.in_ok-check_card.ensures.known.1; head = v.1; room = (near d v.0).1 }
+    record { ready = c.in_ok-check_card.ensures.checked.known.1; head = v.1; room = (near d v.0).1 }
 
 pub returns-in_err-ring : goal.returns-in_err-ring
 returns-in_err-ring g c = absurd c.in_err-ring.ensures
@@ -45,7 +45,7 @@ pub returns : goal.returns
 returns g c =
     record {
       whole = c.check_card.ensures.whole;
-      log = opened (g.D.Disk.blocks c.args.disk.now) c.in_ok-check_card.ensures.answer _ c.in_ok-head.ensures c.in_ok-check_homes.ensures _ c.in_ok-ring.ensures;
+      log = opened (g.D.Disk.blocks c.args.disk.now) c.in_ok-check_card.ensures.checked.answer _ c.in_ok-head.ensures c.in_ok-check_homes.ensures _ c.in_ok-ring.ensures;
     }
 
 pub invariant_of-result : goal.invariant_of-result

@@ -1,5 +1,6 @@
 // What format and opening ask of a card.
 ghost use Rattle.std.specs.Prelude.{◌≡◌};
+ghost use Rattle.disk.specs.Meaning.{Whole};
 ghost use Rattle.journal_log.specs.View.{fetched, CardChecked};
 
 use card::HOMES_FROM;
@@ -17,7 +18,8 @@ pub(crate) fn fetch<D: Disk>(disk: &D, block: u32) -> Result<[u8; BLOCK], DiskFa
 
 // There are enough blocks, and those below the data blocks are live.
 pub(crate) fn check_card<D: Disk>(disk: &D) -> Result<(), LogFault>
-    ensures { CardChecked (D.Disk.blocks disk.now) result }
+    ensures checked { CardChecked (D.Disk.blocks disk.now) result }
+    ensures whole { Whole (D.Disk.blocks disk.now) }
 {
     if disk.count() <= HOMES_FROM {
         return Err(LogFault::Small);
