@@ -1,11 +1,11 @@
 -- Block 0.
-use Rattle.std.proofs.Common.{◌≡◌, ℕ, ◌+◌, ◌-◌, ◌*◌, ◌^◌, ◌<◌, List, [], ◌∷◌, ◌++◌, length, get_or, take, drop, replicate, sym, refl, ap, ◌∙◌, append_assoc, mod-lt, arith, length-append, length-take}
+use Rattle.std.proofs.Common.{◌≡◌, ℕ, ◌+◌, ◌-◌, ◌*◌, ◌^◌, ◌<◌, List, ◌++◌, length, get_or, take, drop, replicate, sym, ap, ◌∙◌, append_assoc, mod-lt, arith, length-append, length-take}
 use borrow.Rule.Slice.PartMut.{put_mid}
-use Rattle.std.specs.List.{range_with_len, flat_map}
+use Rattle.std.specs.List.{flat_map}
 use Rattle.std.proofs.lemmas.List.{take_more, take_all, drop_at, drop-drop, flat_map_more}
 use Rattle.std.proofs.lemmas.List.FromFn.{fill_by_all, get_or-map-range_with_len}
 use Rattle.card.specs.declared.Header.{Header}
-use Rattle.card.specs.Bytes.{to_bytes, from_bytes, field}
+use Rattle.card.specs.Bytes.{to_bytes, from_bytes}
 use Rattle.card.specs.Layout.{slots, slot, end_in, home_in, homes_in, header_in, header_block}
 use Rattle.card.proofs.Bytes.{length_to_bytes, from_bytes_to_bytes, filled_next, length_joined, joined_at}
 

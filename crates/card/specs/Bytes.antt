@@ -1,5 +1,5 @@
 -- Numbers as bytes, lowest byte first.
-use Rattle.std.specs.Prelude.{◌≡◌, ℕ, zero, suc, ◌+◌, ◌*◌, ◌/◌, ◌%◌, Bool, true, false, cond, List, [], ◌∷◌, take, drop, ◌==◌}
+use Rattle.std.specs.Prelude.{ℕ, zero, suc, ◌+◌, ◌*◌, ◌/◌, ◌%◌, Bool, true, false, cond, List, [], ◌∷◌, take, drop, ◌==◌}
 
 -- a number from its bytes. No law says that a byte is below 256, which code knows of each that it reads: the remainder makes
 -- decoding total, so that k bytes always give a number below 256 ^ k

@@ -1,6 +1,6 @@
 -- The card: block 0, the header, holds the end position and the home number of each slot; block 1 holds the start position; the log
 -- lies in the 62 blocks after them, and data blocks, called homes, begin at block 64.
-use Rattle.std.specs.Prelude.{◌≡◌, ℕ, ◌+◌, ◌-◌, ◌*◌, ◌%◌, ◌^◌, ◌<◌, cond, List, [], ◌∷◌, ◌++◌, map, length, replicate, Some, ◌==◌, ◌≢◌}
+use Rattle.std.specs.Prelude.{ℕ, ◌+◌, ◌-◌, ◌*◌, ◌%◌, ◌^◌, ◌<◌, cond, List, [], ◌∷◌, ◌++◌, map, replicate, Some, ◌==◌, ◌≢◌}
 use Rattle.std.specs.List.{range_with_len, flat_map}
 use Rattle.disk.specs.Meaning.{Block, Blocks, block, bytes_or}
 use Rattle.card.specs.declared.Header.{Header}

@@ -1,5 +1,5 @@
 -- The operations of an open journal, by number.
-use Rattle.std.proofs.Common.{◌≡◌, ℕ, zero, suc, ◌<◌, ◌≤◌, true, false, List, [], ◌∷◌, length, get_or, is_some, None, Option, sym, refl, ap, ◌∙◌, subst, ⊎_elim, Bor}
+use Rattle.std.proofs.Common.{◌≡◌, ℕ, zero, suc, ◌<◌, ◌≤◌, true, List, [], ◌∷◌, length, get_or, is_some, None, Option, sym, refl, ap, ◌∙◌, ⊎_elim, Bor}
 use Rattle.std.specs.Option.{option_map}
 use Rattle.std.proofs.lemmas.List.{get_or_default, get_or_past}
 use Rattle.std.proofs.lemmas.Bool.{both_ways, cases_lt}

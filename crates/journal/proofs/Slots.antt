@@ -1,5 +1,5 @@
 -- Reads and overwrites by the operation with a number: what happens in its slot is what happens to the journal.
-use Rattle.std.proofs.Common.{◌≡◌, ℕ, ◌<◌, ◌≤◌, Bool, true, false, cond, List, [], length, get_or, set, is_some, Some, None, Ok, Err, Option, unwrap_or, sym, refl, ap, ◌∙◌, subst, ⊎_elim, arith}
+use Rattle.std.proofs.Common.{◌≡◌, ℕ, true, false, cond, List, [], length, set, Some, None, Ok, Option, unwrap_or, sym, refl, ap, ◌∙◌, ⊎_elim, arith}
 use Rattle.std.specs.Option.{option_map}
 use Rattle.std.proofs.lemmas.List.{set-get_or, map-set}
 use Rattle.std.proofs.lemmas.Bool.{cases_Bool}
@@ -12,7 +12,7 @@ use Rattle.model.specs.declared.Fault.{Fault}
 use Rattle.model.specs.declared.Fault.TheVariants.{Ticket}
 use Rattle.model.specs.Outcomes.{Outcome, decided, answering, refused_by, value_unless}
 use Rattle.model.specs.Journal.{Open}
-use Rattle.model.specs.Calls.{Call, reads, overwrites, buffer_of, called, operation, held_by, with_operation, reading, grants}
+use Rattle.model.specs.Calls.{reads, overwrites, called, operation, held_by, with_operation, reading, grants}
 use Rattle.journal_log.specs.declared.state.Log.{Log}
 use Rattle.journal_log.specs.View.{view}
 use Rattle.operation.specs.declared.table.Table.{Table}

@@ -1,5 +1,5 @@
 -- What a journal in memory stands for, and what its calls answer.
-use Rattle.std.specs.Prelude.{◌≡◌, ℕ, List, [], map, Some, None, Ok, Err, Option, Result}
+use Rattle.std.specs.Prelude.{◌≡◌, ℕ, List, [], map, Ok, Err, Option, Result}
 use Rattle.std.specs.Option.{option_map}
 use Rattle.disk.specs.Meaning.{Blocks}
 use Rattle.object.specs.Tables.{Held}

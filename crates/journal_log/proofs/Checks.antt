@@ -1,14 +1,14 @@
 -- The tests of opening, one list at a time.
-use Rattle.std.proofs.Common.{◌≡◌, ℕ, ◌+◌, ◌-◌, ◌<◌, ◌≤◌, Bool, true, false, cond, not, ltb, leb, ◌⊎◌, List, [], ◌∷◌, map, length, take, drop, Some, None, Ok, Err, Option, Result, sym, refl, ap, ◌∙◌, subst, ⊎_elim, arith}
+use Rattle.std.proofs.Common.{◌≡◌, ℕ, ◌+◌, ◌-◌, ◌<◌, ◌≤◌, Bool, true, false, cond, not, ltb, leb, List, map, length, take, drop, Some, None, Ok, Err, Option, sym, ap, ◌∙◌, subst, ⊎_elim, arith}
 use Rattle.std.specs.List.{range_with_len}
 use Rattle.std.proofs.lemmas.List.{take_rest}
 use Rattle.std.proofs.lemmas.Bool.{lt-leb, le-leb, lt-ltb, le-ltb, cases_eq}
 use Rattle.disk.specs.Tests.{Test, first_of, either}
 use Rattle.disk.specs.Meaning.{Blocks}
 use Rattle.card.specs.Bytes.{all_zero}
-use Rattle.card.specs.Layout.{homes_from, slot, log_block, bytes_on, home_on}
+use Rattle.card.specs.Layout.{homes_from, slot, bytes_on, home_on}
 use Rattle.model.specs.declared.LogFault.{LogFault}
-use Rattle.model.specs.declared.LogFault.TheVariants.{Reserved, HomeRange}
+use Rattle.model.specs.declared.LogFault.TheVariants.{Reserved}
 use Rattle.model.specs.Outcomes.{value_unless, passed}
 use Rattle.model.specs.Log.{reserved_tests, range_test}
 use Rattle.model.proofs.Tests.{none_from, first_from}

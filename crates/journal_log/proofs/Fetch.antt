@@ -1,11 +1,11 @@
 -- What a fetch tells of a card.
-use Rattle.std.proofs.Common.{◌≡◌, ℕ, ◌<◌, ◌≤◌, Bool, true, false, cond, not, leb, List, [], map, length, Some, None, Ok, Err, Option, Result, sym, refl, ap, ◌∙◌, subst, arith}
+use Rattle.std.proofs.Common.{◌≡◌, ℕ, ◌<◌, ◌≤◌, Bool, true, false, cond, not, List, map, length, Some, None, Ok, Err, sym, refl, ap, ◌∙◌, arith}
 use Rattle.std.specs.List.{range_with_len}
 use Rattle.std.proofs.lemmas.Bool.{lt-leb, le-leb}
 use Rattle.disk.specs.declared.fault.DiskFault.{DiskFault}
 use Rattle.disk.specs.declared.fault.DiskFault.TheVariants.{Dead as DeadBlock}
 use Rattle.disk.specs.Tests.{first_of}
-use Rattle.disk.specs.Meaning.{Block, Blocks, block, is_live, block_size, refusal}
+use Rattle.disk.specs.Meaning.{Blocks, block, is_live, block_size, refusal}
 use Rattle.disk.proofs.Refusals.{inside}
 use Rattle.card.specs.Layout.{homes_from, bytes_on}
 use Rattle.model.specs.declared.LogFault.{LogFault}

@@ -1,6 +1,5 @@
 -- The tests of opening one list after another, and what is read once they are passed.
-use Rattle.std.proofs.Common.{◌≡◌, ℕ, ◌+◌, ◌-◌, ◌<◌, ◌≤◌, Bool, true, false, cond, not, ltb, leb, ◌⊎◌, List, [], ◌∷◌, ◌++◌, map, length, get_or, set, Some, None, Ok, Err, Option, Result, sym, refl, ap, ◌∙◌, subst, ⊎_elim, mod-lt, arith, length-set, get_or-set_other, get_or-set_same}
-use Rattle.std.specs.List.{range_with_len}
+use Rattle.std.proofs.Common.{◌≡◌, ℕ, ◌+◌, ◌-◌, ◌<◌, ◌≤◌, Bool, true, false, not, ltb, leb, List, [], ◌++◌, map, length, get_or, set, None, Ok, Err, Result, sym, refl, ap, ◌∙◌, subst, ⊎_elim, mod-lt, arith, get_or-set_other, get_or-set_same}
 use Rattle.std.proofs.lemmas.Bool.{ltb-false, leb-false, cases_eq}
 use Rattle.std.proofs.lemmas.List.{append-nil}
 use Rattle.disk.specs.declared.fault.DiskFault.{DiskFault}
@@ -8,7 +7,7 @@ use Rattle.disk.specs.Tests.{Test, first_of, either}
 use Rattle.disk.specs.Meaning.{Blocks}
 use Rattle.card.specs.declared.Header.{Header}
 use Rattle.card.specs.declared.Update.{Update}
-use Rattle.card.specs.Layout.{slots, homes_from, highest, slot, log_block, homes_in, header_end, start_end, header_in, start_in, home_in, bytes_on, end_on, start_on, home_on, update_on, live_positions, live_updates}
+use Rattle.card.specs.Layout.{slots, homes_from, highest, slot, log_block, homes_in, header_end, start_end, header_in, start_in, bytes_on, end_on, start_on, home_on, update_on, live_positions, live_updates}
 use Rattle.card.proofs.Headers.{home_read}
 use Rattle.card.proofs.Slots.{slots_differ}
 use Rattle.model.specs.declared.LogFault.{LogFault}
@@ -17,7 +16,7 @@ use Rattle.model.specs.Outcomes.{value_unless, passed}
 use Rattle.model.specs.Log as model
 use Rattle.model.specs.Log.{reserved_tests, position_tests, head_tests, range_test, life_test, home_tests, card_tests, opening_tests, log_on}
 use Rattle.model.specs.Card.{Ready}
-use Rattle.model.proofs.Tests.{value_ok, value_err, none_first, none_both, none_each, goes_on, halts, map_counting_same}
+use Rattle.model.proofs.Tests.{value_ok, none_first, none_both, none_each, goes_on, halts, map_counting_same}
 use Rattle.journal_log.specs.declared.open.Head.{Head}
 use Rattle.journal_log.specs.Ring.{row_at, rows_from}
 use Rattle.journal_log.specs.View.{head_on, log_from, fetched}
@@ -160,3 +159,7 @@ module _ (d : Blocks) where
           ap (λ (x : Head). Ok (log_from x.start x.header.end x.header.end x.header.end rows x.header.homes None None)) after_head.1 ∙
           ap (λ us. Ok (log_with d us)) (rows_are d rows all) ∙
           sym (ap (λ o. value_unless o (log_on d)) (after_head.0 ∙ (value_ok (first_of (home_tests d)) tt tt e).0))
+
+-- the positions of a log that an opening found
+pub opened_near : (d : Blocks) → first_of (opening_tests d) ≡ None → end_on d ≤ start_on d + slots
+opened_near d e = (near d (none_both (head_tests d) (home_tests d) (none_both (card_tests d) (head_tests d ++ home_tests d) e).1).0).1

@@ -1,5 +1,5 @@
 -- The two writes of format.
-use Rattle.std.proofs.Common.{◌≡◌, ℕ, ◌<◌, List, length, None, Err, sym, refl, ap, ◌∙◌, subst, arith}
+use Rattle.std.proofs.Common.{◌≡◌, ℕ, ◌<◌, List, length, Err, sym, ap, ◌∙◌, subst, arith}
 use Rattle.disk.specs.declared.fault.DiskFault.{DiskFault}
 use Rattle.disk.specs.Meaning.{Blocks, refusal, answered, written, counted, one_more}
 use Rattle.disk.proofs.Refusals.{unless_none, answered_err}

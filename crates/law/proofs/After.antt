@@ -1,5 +1,5 @@
 -- What each call answers and leaves, by the record.
-use Rattle.std.proofs.Common.{◌≡◌, ℕ, ◌+◌, ◌-◌, ◌<◌, ◌≤◌, Bool, true, false, cond, not, eqb, ◌⊎◌, List, [], ◌∷◌, ◌++◌, length, get_or, set, is_some, IfOk, Some, None, Ok, Err, Option, Result, unwrap_or, sym, refl, ap, ◌∙◌, subst, inl, inr, ⊎_elim, arith, get_or-set_same}
+use Rattle.std.proofs.Common.{◌≡◌, ℕ, ◌+◌, ◌<◌, true, List, [], ◌∷◌, ◌++◌, length, get_or, is_some, IfOk, Some, None, Ok, Option, unwrap_or, sym, refl, ap, ◌∙◌, subst, arith, get_or-set_same}
 use Rattle.std.proofs.lemmas.Bool.{eq-eqb}
 use Rattle.disk.specs.Tests.{first_of, unless, either}
 use Rattle.disk.specs.Meaning.{Blocks}
@@ -9,13 +9,12 @@ use Rattle.object.specs.Tables.{Held, value_in, holding, dirty_ones}
 use Rattle.object.proofs.Tables.{held_now}
 use Rattle.model.specs.declared.Fault.{Fault}
 use Rattle.model.specs.Outcomes.{Outcome, decided}
-use Rattle.model.specs.Log.{Log, last}
-use Rattle.model.specs.Operations.{among, place_tests, bit_tests, table_tests, dirty_blocks, committed}
-use Rattle.model.specs.Journal.{Open, View}
-use Rattle.model.specs.Calls.{Call, begins, reads, overwrites, commits, gives_up, flushes, logs, installs, buffer_of, held_by, ticket_tests, known, tests_of, grants, outcome}
+use Rattle.model.specs.Operations.{among, place_tests, bit_tests, table_tests, committed}
+use Rattle.model.specs.Journal.{Open}
+use Rattle.model.specs.Calls.{Call, begins, reads, overwrites, commits, gives_up, flushes, logs, installs, held_by, ticket_tests, known, tests_of, grants, outcome}
 use Rattle.model.proofs.Card.{not_false}
 use Rattle.model.proofs.Tests.{none_both, none_first}
-use Rattle.law.specs.Record.{Record, touched_by, noted, due, refusals, blocks_of}
+use Rattle.law.specs.Record.{Record, touched_by, noted, due, blocks_of}
 use Rattle.law.specs.Law.{Fresh, AfterCall}
 use Rattle.law.proofs.Tables.{table_of}
 use Rattle.law.proofs.CommitTold as CommitTold

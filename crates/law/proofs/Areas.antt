@@ -1,10 +1,10 @@
 -- Commits laid on an area.
-use Rattle.std.proofs.Common.{◌≡◌, ℕ, ◌<◌, ◌≤◌, Bool, true, false, cond, eqb, leb, List, [], ◌∷◌, ◌++◌, length, Some, None, Option, sym, refl, ap, ◌∙◌, subst, ⊎_elim, arith}
+use Rattle.std.proofs.Common.{◌≡◌, ℕ, ◌<◌, ◌≤◌, Bool, true, false, cond, eqb, leb, List, [], ◌∷◌, ◌++◌, Some, None, Option, sym, refl, ap, ◌∙◌, subst, ⊎_elim, arith}
 use Rattle.std.specs.Option.{option_map}
 use Rattle.std.specs.List.{AllByRecursion}
 use Rattle.std.proofs.lemmas.Bool.{le-leb, lt-leb, cases_lt}
 use Rattle.disk.specs.Tests.{both}
-use Rattle.disk.specs.Meaning.{Block, Blocks}
+use Rattle.disk.specs.Meaning.{Block}
 use Rattle.object.specs.Objects.{laid}
 use Rattle.object.specs.Tables.{Held, dirty_ones}
 use Rattle.card.specs.Layout.{Area}

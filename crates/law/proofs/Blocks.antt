@@ -1,16 +1,13 @@
 -- What a write of one block leaves of a card.
-use Rattle.std.proofs.Common.{◌≡◌, ℕ, ◌+◌, ◌-◌, ◌*◌, ◌^◌, ◌<◌, ◌≤◌, Bool, true, false, List, [], ◌∷◌, ◌++◌, length, get_or, take, drop, set, replicate, Some, None, Option, sym, refl, ap, ◌∙◌, subst, ⊎_elim, arith, length-append, length-set, get_or-set_other, get_or-set_same}
-use lib.ListN.{length-replicate}
+use Rattle.std.proofs.Common.{◌≡◌, ℕ, ◌+◌, ◌-◌, ◌*◌, ◌^◌, ◌<◌, ◌≤◌, List, [], ◌++◌, length, get_or, set, replicate, Some, None, sym, refl, ap, ◌∙◌, subst, ⊎_elim, arith, length-append, length-set, get_or-set_other, get_or-set_same}
 use Rattle.std.specs.List.{flat_map}
 use Rattle.std.proofs.lemmas.Bool.{cases_eq, cases_lt}
 use Rattle.std.proofs.lemmas.List.{append_assoc, get_or-append_right, get_or-replicate, get_or_past}
-use Rattle.disk.specs.Meaning.{Block, Blocks, block, is_live, block_size, bytes_or, Whole}
+use Rattle.disk.specs.Meaning.{Blocks, block, block_size, bytes_or, Whole}
 use Rattle.card.specs.declared.Header.{Header}
-use Rattle.card.specs.declared.Update.{Update}
-use Rattle.card.specs.Bytes.{to_bytes, from_bytes}
+use Rattle.card.specs.Bytes.{to_bytes}
 use Rattle.card.specs.Layout.{slots, homes_from, highest, slot, log_block, header_end, start_end, header_in, homes_in, header_block, start_in, start_block, bytes_on, end_on, start_on, home_on, update_on}
-use Rattle.card.proofs.Bytes.{length_to_bytes, from_bytes_to_bytes, length_joined}
-use Rattle.card.proofs.Headers.{header_again}
+use Rattle.card.proofs.Bytes.{from_bytes_to_bytes, length_joined}
 
 module _ (d : Blocks) (b : ℕ) (bs : List ℕ) where
   pub block_here : b < length d → block (set d b (Some bs)) b ≡ Some bs

@@ -1,21 +1,20 @@
 -- How many steps it takes: each step of a round lowers what is left of it, and no other call raises it.
-use Rattle.std.proofs.Common.{◌≡◌, ℕ, ◌+◌, ◌-◌, ◌<◌, ◌≤◌, Bool, true, false, cond, ltb, ◌⊎◌, List, [], ◌∷◌, Some, None, Ok, Err, Option, Result, sym, refl, ap, ◌∙◌, subst, inl, inr, ⊎_elim, arith, MatchResult}
+use Rattle.std.proofs.Common.{◌≡◌, ℕ, ◌+◌, ◌-◌, ◌<◌, ◌≤◌, Bool, true, false, cond, ◌⊎◌, List, [], ◌∷◌, Some, None, Ok, Option, Result, sym, refl, ap, subst, inl, inr, ⊎_elim, arith, MatchResult}
 use Rattle.std.proofs.lemmas.Bool.{cases_lt, lt-ltb}
 use Rattle.disk.specs.Tests.{first_of}
 use Rattle.disk.specs.Meaning.{Blocks}
 use Rattle.object.specs.Tables.{is_in}
-use Rattle.card.specs.Layout.{end_on}
 use Rattle.model.specs.declared.Fault.{Fault}
 use Rattle.model.specs.declared.Round.{Round}
 use Rattle.model.specs.Outcomes.{Outcome, decided}
 use Rattle.model.specs.Log.{Log, last}
 use Rattle.model.specs.Steps.{frozen_at, log_step, install_step}
 use Rattle.model.specs.Journal.{Open}
-use Rattle.model.specs.Calls.{Call, begins, reads, overwrites, commits, gives_up, flushes, logs, installs, buffer_of, held_by, holds, seen, tests_of, grants, called, outcome}
+use Rattle.model.specs.Calls.{Call, begins, reads, overwrites, commits, gives_up, flushes, logs, installs, buffer_of, held_by, holds, seen, tests_of, grants, called}
 use Rattle.law.specs.Record.{Record, noted}
-use Rattle.law.specs.Law.{bound, log_count, install_count, total, view_after, disk_after, answer_after, NoLower, SoonDurable, SoonFree}
+use Rattle.law.specs.Law.{bound, log_count, install_count, total, answer_after, NoLower, SoonDurable, SoonFree}
 use Rattle.law.proofs.Invariant.{IfSome, Logs, Installs, Kept}
-use Rattle.law.proofs.Rounds.{LogDone, log_done, Moves, round_of, working, LogGoes, log_goes, InstallDone, install_done, InstallMoves, install_of, InstallGoes, install_goes}
+use Rattle.law.proofs.Rounds.{log_done, Moves, round_of, working, LogGoes, log_goes, install_done, InstallMoves, install_of, InstallGoes, install_goes}
 use Rattle.law.proofs.Told as Told
 use Rattle.law.proofs.Refusals.{Inv}
 use Rattle.law.proofs.Run.{call_inv}
@@ -68,7 +67,7 @@ log_need : (l : Log) (d : Blocks) → Kept l d → (p n : ℕ) → p ≤ l.froze
 log_need l d k p n a b (Some r) h = h
 log_need l d k p n a b None h =
     let t : (round_of l None).target ≡ l.frozen = ap (λ q. cond q l.frozen (last l)) (lt-ltb l.end l.frozen (omega arith)) in
-    inl (omega (arith, t), omega (arith, t, k.order.frozen_last, k.order.room, k.order.start_end_lem))
+    inl (omega (arith, t), omega (arith, t, k.order.frozen_last, k.order.room, k.order.start_end))
 
 log_left : (l : Log) (d : Blocks) → Kept l d → (p n : ℕ) (m : Log) → l.end ≤ m.end → p ≤ l.frozen → (x : Option Round) → LogGoes l x m → Left p l.end x (1 + n) → Left p m.end m.logging n
 log_left l d k p n m grows a x g h = ⊎_elim
@@ -82,7 +81,7 @@ log_left l d k p n m grows a x g h = ⊎_elim
 
 log_first : (l : Log) (d : Blocks) → Kept l d → (p at : ℕ) (x : Option Round) → IfSome x (Logs l.start l.end l.frozen l.updates d) → Left p at x bound
 log_first l d k p at None h = inr (omega arith)
-log_first l d k p at (Some r) h = inr (inr (omega (arith, h.from, h.below, k.order.frozen_last, k.order.room, k.order.start_end_lem)))
+log_first l d k p at (Some r) h = inr (inr (omega (arith, h.from, h.below, k.order.frozen_last, k.order.room, k.order.start_end)))
 
 -- ## An installer step
 
@@ -110,7 +109,7 @@ install_first l d k p at (Some r) h = inr (inr (omega (arith, h.from, h.below, k
 
 -- the start never falls
 target_high : (l : Log) (d : Blocks) → Kept l d → (x : Option Round) → IfSome x (Installs l.start l.end l.updates d) → l.start ≤ (install_of l x).target
-target_high l d k None h = k.order.start_end_lem
+target_high l d k None h = k.order.start_end
 target_high l d k (Some r) h = omega (arith, h.some)
 
 start_grows : (l : Log) (d : Blocks) → Kept l d → (m : Log) → InstallGoes l l.installing m → l.start ≤ m.start

@@ -1,23 +1,23 @@
 -- A commit, by the record.
-use Rattle.std.proofs.Common.{◌≡◌, ℕ, ◌+◌, ◌-◌, ◌<◌, ◌≤◌, Bool, true, false, cond, not, eqb, leb, ◌⊎◌, List, [], ◌∷◌, ◌++◌, length, get_or, take, drop, Some, None, Option, sym, refl, ap, ◌∙◌, subst, inl, inr, ⊎_elim, arith, length-drop}
+use Rattle.std.proofs.Common.{◌≡◌, ℕ, ◌+◌, ◌-◌, ◌<◌, ◌≤◌, Bool, true, false, cond, not, eqb, leb, ◌⊎◌, List, [], ◌∷◌, ◌++◌, length, drop, Some, None, Option, sym, refl, ap, ◌∙◌, subst, inl, inr, ⊎_elim, arith, length-drop}
 use Rattle.std.specs.Option.{option_map}
 use Rattle.std.specs.List.{AllByRecursion}
-use Rattle.std.proofs.lemmas.Bool.{eq-eqb, ne_eqb, eqb-true, lt-leb, le-leb, cases_eq, cases_lt}
+use Rattle.std.proofs.lemmas.Bool.{eq-eqb, ne_eqb, lt-leb, le-leb, cases_eq, cases_lt}
 use Rattle.std.proofs.lemmas.List.{take_all}
 use Rattle.disk.specs.Tests.{both, either}
 use Rattle.disk.specs.Meaning.{Block, Blocks, block, is_live, bytes_or}
 use Rattle.object.specs.Tables.{Held, dirty_ones}
 use Rattle.card.specs.declared.Update.{Update}
-use Rattle.card.specs.Layout.{slots, homes_from, highest, latest, Area}
+use Rattle.card.specs.Layout.{latest, Area}
 use Rattle.model.specs.declared.Round.{Round}
 use Rattle.model.specs.Log.{Log, last}
 use Rattle.model.specs.Steps.{with_updates}
 use Rattle.model.specs.Operations.{among, dirty_blocks, laid_in, committed}
 use Rattle.law.specs.Record.{Commit, lay, lay_all, up_to, blocks_of, changed_above}
-use Rattle.law.proofs.Invariant.{absent, Good, IfSome, Logs, Kept}
-use Rattle.law.proofs.Absorb.{homes_of, Distinct, either_false, either_assoc, at_every, latest_none}
-use Rattle.law.proofs.Commits.{count, picks, dirty_takes, dirty_skips, dirty_distinct, merged_latest, either_none, either_true}
-use Rattle.law.proofs.Areas.{AtMost, Rising, lay_laid_in, lay_all_push, up_to_all, up_to_push, bounded_push, rising_push}
+use Rattle.law.proofs.Invariant.{Good, IfSome, Logs, Kept}
+use Rattle.law.proofs.Absorb.{homes_of, Distinct, either_assoc, at_every, latest_none}
+use Rattle.law.proofs.Commits.{picks, dirty_takes, dirty_skips, dirty_distinct, merged_latest, either_none, either_true}
+use Rattle.law.proofs.Areas.{AtMost, lay_laid_in, lay_all_push, up_to_all, up_to_push, bounded_push, rising_push}
 use Rattle.law.proofs.Tables.{TableGood, every_map}
 use Rattle.law.proofs.Committed as Committed
 use Rattle.law.proofs.Told.{Shows, open_homes, LogTold}

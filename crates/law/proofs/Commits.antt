@@ -1,5 +1,5 @@
 -- How the dirty objects of an operation become updates.
-use Rattle.std.proofs.Common.{◌≡◌, ℕ, ◌+◌, ◌<◌, ◌≤◌, Bool, true, false, cond, not, eqb, ◌⊎◌, List, [], ◌∷◌, length, get_or, take, drop, Some, None, sym, refl, ap, ◌∙◌, subst, inl, inr, ⊎_elim, arith}
+use Rattle.std.proofs.Common.{◌≡◌, ℕ, ◌+◌, ◌≤◌, Bool, true, false, cond, not, eqb, ◌⊎◌, List, [], ◌∷◌, length, take, drop, Some, sym, refl, ap, ◌∙◌, subst, inl, inr, ⊎_elim, arith}
 use Rattle.std.specs.List.{AllByRecursion}
 use Rattle.std.proofs.lemmas.Bool.{eq-eqb, ne_eqb, eqb-false, cases_eq}
 use Rattle.disk.specs.Tests.{both, either}
@@ -9,7 +9,7 @@ use Rattle.card.specs.declared.Update.{Update}
 use Rattle.card.specs.Layout.{latest}
 use Rattle.model.specs.Operations.{among, dirty_blocks, laid_in, merged}
 use Rattle.model.specs.Steps.{added}
-use Rattle.law.proofs.Absorb.{homes_of, Distinct, either_false, neither, either_assoc, eqb_sym, topped, absorbed_among, absorbed_distinct, added_take, added_drop, added_length, added_latest, added_every}
+use Rattle.law.proofs.Absorb.{homes_of, Distinct, either_false, neither, either_assoc, absorbed_among, absorbed_distinct, added_take, added_drop, added_length, added_latest, added_every}
 use Rattle.law.proofs.Latest.{latest_here, latest_other}
 
 -- ## Conditions

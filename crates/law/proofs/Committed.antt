@@ -1,20 +1,19 @@
 -- A commit keeps the log and the card together, and shows its objects.
-use Rattle.std.proofs.Common.{◌≡◌, ℕ, ◌+◌, ◌-◌, ◌<◌, ◌≤◌, Bool, true, false, cond, not, eqb, ◌⊎◌, List, [], ◌∷◌, ◌++◌, length, get_or, take, drop, Some, None, Option, sym, refl, ap, ◌∙◌, subst, inl, inr, ⊎_elim, arith, length-drop, get_or-take, take-take, MatchOption}
+use Rattle.std.proofs.Common.{◌≡◌, ℕ, ◌+◌, ◌-◌, ◌<◌, ◌≤◌, Bool, true, false, cond, not, eqb, ◌⊎◌, List, [], ◌∷◌, length, get_or, take, drop, Some, None, sym, refl, ap, ◌∙◌, subst, inl, inr, ⊎_elim, arith, get_or-take, take-take, MatchOption}
 use Rattle.std.specs.Option.{option_map}
 use Rattle.std.specs.List.{AllByRecursion}
-use Rattle.std.proofs.lemmas.Bool.{eq-eqb, ne_eqb, cases_eq}
+use Rattle.std.proofs.lemmas.Bool.{eq-eqb, ne_eqb}
 use Rattle.disk.specs.Tests.{both, either}
 use Rattle.disk.specs.Meaning.{Block, Blocks, block, is_live, block_size, bytes_or, Whole}
 use Rattle.object.specs.Objects.{laid}
-use Rattle.object.specs.Tables.{Held, dirty_ones}
+use Rattle.object.specs.Tables.{Held}
 use Rattle.card.specs.declared.Update.{Update}
 use Rattle.card.specs.Layout.{slots, homes_from, highest, latest}
-use Rattle.model.specs.declared.Round.{Round}
 use Rattle.model.specs.Log.{Log}
 use Rattle.model.specs.Steps.{with_updates}
-use Rattle.model.specs.Operations.{among, dirty_blocks, laid_in, merged, committed}
+use Rattle.model.specs.Operations.{among, dirty_blocks, laid_in, committed}
 use Rattle.model.proofs.Card.{live_bytes}
-use Rattle.law.proofs.Invariant.{absent, Good, at_position, InOrder, OnCard, Logs, Installs, IfSome, AllGood, Kept}
+use Rattle.law.proofs.Invariant.{absent, Good, at_position, AllGood, Kept}
 use Rattle.law.proofs.Rounds.{if_some_map}
 use Rattle.law.proofs.Absorb.{homes_of, Distinct, either_false, every_at, at_every}
 use Rattle.law.proofs.Commits.{count, picks, dirty_takes, dirty_skips, dirty_distinct, dirty_every, fresh, merged_take, merged_distinct, merged_among, merged_length, merged_latest, merged_every}
@@ -133,7 +132,7 @@ module _ (l : Log) (d : Blocks) (k : Kept l d) (far : Distinct (homes_of (drop (
 
   pub commit_kept : length new ≤ slots → l.start + length new ≤ highest → Kept (with_updates l new) d
   commit_kept room top = record {
-    order = record { start_end_lem = k.order.start_end_lem; end_frozen = k.order.end_frozen; frozen_last = omega (arith, k.order.frozen_last, new_length); room = room; top = top };
+    order = record { start_end = k.order.start_end; end_frozen = k.order.end_frozen; frozen_last = omega (arith, k.order.frozen_last, new_length); room = room; top = top };
     card = record {
       whole = k.card.whole;
       ready = k.card.ready;
@@ -150,7 +149,7 @@ module _ (l : Log) (d : Blocks) (k : Kept l d) (far : Distinct (homes_of (drop (
       upto = g.upto;
       some = g.some;
       below = g.below;
-      logged = λ p a b. g.logged p a b ∙ sym (ap (λ (u : Update). u.bytes) (new_at p (omega (arith, k.order.start_end_lem)) (omega (arith, g.upto, g.below))));
+      logged = λ p a b. g.logged p a b ∙ sym (ap (λ (u : Update). u.bytes) (new_at p (omega (arith, k.order.start_end)) (omega (arith, g.upto, g.below))));
     }) k.logging;
     installing = if_some_map l.installing (λ r i. record {
       from = i.from;

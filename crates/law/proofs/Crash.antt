@@ -1,22 +1,21 @@
 -- The crash law, by induction over the events of a run.
-use Rattle.std.proofs.Common.{◌≡◌, ℕ, ◌+◌, ◌-◌, ◌<◌, ◌≤◌, max, true, ◌⊎◌, List, [], ◌∷◌, length, get_or, take, Some, None, Ok, Option, sym, refl, ap, ◌∙◌, subst, ⊎_elim, arith, length-take, take-take}
-use Rattle.std.specs.List.{AllByRecursion}
+use Rattle.std.proofs.Common.{◌≡◌, ℕ, ◌+◌, ◌-◌, ◌<◌, ◌≤◌, max, List, [], ◌∷◌, length, get_or, Some, None, Option, sym, refl, ap, ◌∙◌, subst, ⊎_elim, arith, length-take, take-take}
 use Rattle.std.proofs.lemmas.List.{take_all}
 use Rattle.std.proofs.lemmas.List.FromFn.{length-map-range_with_len, get_or-map-range_with_len}
-use Rattle.disk.specs.Meaning.{Blocks, block, is_live, block_size, bytes_or, Whole}
+use Rattle.disk.specs.Meaning.{Blocks, block, Whole}
 use Rattle.object.specs.Tables.{Held, most_held}
 use Rattle.card.specs.declared.Update.{Update}
-use Rattle.card.specs.Layout.{homes_from, slot, log_block, home_on, bytes_on, end_on, start_on, update_on, live_updates, latest, Area, area}
-use Rattle.model.specs.Outcomes.{Outcome, answering}
+use Rattle.card.specs.Layout.{log_block, bytes_on, end_on, start_on, update_on, live_updates, latest, area}
+use Rattle.model.specs.Outcomes.{Outcome}
 use Rattle.model.specs.Log.{Log, last, log_on}
 use Rattle.model.specs.Steps.{log_step, install_step}
 use Rattle.model.specs.Operations.{among}
-use Rattle.model.specs.Journal.{Open, View, shut, opened_with, opening}
+use Rattle.model.specs.Journal.{Open, View, opened_with}
 use Rattle.model.specs.Sound.{Sound}
-use Rattle.model.specs.Calls.{Call, begins, reads, overwrites, commits, gives_up, flushes, logs, installs, with_log, called, outcome}
+use Rattle.model.specs.Calls.{Call, begins, reads, overwrites, commits, gives_up, flushes, logs, installs, called, outcome}
 use Rattle.model.proofs.Calls.{opening_granted}
 use Rattle.model.proofs.Opening.{opening_law}
-use Rattle.law.specs.Record.{Commit, Record, lay_all, up_to, changed_above, reopened, begun, noted, granted}
+use Rattle.law.specs.Record.{Commit, Record, lay_all, up_to, reopened, begun, noted, granted}
 use Rattle.law.specs.Law.{Event, call, cut, Leaves, AtMost, Ordered, durable_part, Standing, AfterCut, Along, Lasting, CrashLaw}
 use Rattle.law.proofs.Invariant.{absent, Good, Kept}
 use Rattle.law.proofs.Homes.{length_homes_in}
@@ -24,8 +23,8 @@ use Rattle.law.proofs.Logger.{log_low}
 use Rattle.law.proofs.Absorb.{Distinct}
 use Rattle.law.proofs.Reopen.{kept_opening, kept_area, durable_kept}
 use Rattle.law.proofs.Areas.{up_to_up_to, up_to_bounded, up_to_rising, up_to_prefix}
-use Rattle.law.proofs.Tables.{TableGood, EntryGood, Tables, every_map}
-use Rattle.law.proofs.Committed.{Full, full_bytes, live_full}
+use Rattle.law.proofs.Tables.{EntryGood, every_map}
+use Rattle.law.proofs.Committed.{full_bytes, live_full}
 use Rattle.law.proofs.Told as Told
 use Rattle.law.proofs.Told.{Shows, open_homes, LogTold, changed_none, settled_none}
 use Rattle.law.proofs.Refusals.{Inv}
@@ -42,7 +41,7 @@ few d (Some hs) g = g.few
 
 ordered : (j : Open) (d : Blocks) (r : Record) → Inv j d r → Ordered j
 ordered j d r i = let k = i.kept in record {
-  start_end_lem = k.order.start_end_lem;
+  start_end = k.order.start_end;
   end_frozen = k.order.end_frozen;
   frozen_last = k.order.frozen_last;
   room = k.order.room;
@@ -125,7 +124,7 @@ module _ (d : Blocks) (r : Record) (f : Found d r) where
   m = durable_part l
 
   at_last : last m ≡ l.end
-  at_last = let t = length-take (l.end - l.start) l.updates in omega (arith, f.kept.order.start_end_lem, f.kept.order.end_frozen, f.kept.order.frozen_last)
+  at_last = let t = length-take (l.end - l.start) l.updates in omega (arith, f.kept.order.start_end, f.kept.order.end_frozen, f.kept.order.frozen_last)
 
   shows_end : Shows m d r.first (up_to e r.commits) l.end
   shows_end b a lt =
@@ -177,7 +176,7 @@ module _ (d : Blocks) (w : Whole d) (s : Sound d) where
 
   start_kept : Kept (log_on d) d
   start_kept = record {
-    order = record { start_end_lem = s.order; end_frozen = omega arith; frozen_last = omega (arith, many, s.order); room = omega (arith, many, s.few); top = omega (arith, many, s.order, s.top) };
+    order = record { start_end = s.order; end_frozen = omega arith; frozen_last = omega (arith, many, s.order); room = omega (arith, many, s.few); top = omega (arith, many, s.order, s.top) };
     card = record {
       whole = w;
       ready = s.ready;

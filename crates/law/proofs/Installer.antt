@@ -1,11 +1,10 @@
 -- An installer step keeps the log and the card together.
-use Rattle.std.proofs.Common.{◌≡◌, ℕ, ◌+◌, ◌-◌, ◌^◌, ◌<◌, ◌≤◌, Bool, true, false, List, [], ◌∷◌, ◌++◌, length, get_or, take, drop, set, Some, None, Option, sym, refl, ap, ◌∙◌, subst, ⊎_elim, arith, length-drop, length-set, get_or-drop}
+use Rattle.std.proofs.Common.{◌≡◌, ℕ, ◌+◌, ◌-◌, ◌<◌, ◌≤◌, List, length, get_or, take, drop, set, Some, sym, ap, ◌∙◌, subst, ⊎_elim, arith, length-drop, length-set, get_or-drop}
 use Rattle.std.proofs.lemmas.Bool.{cases_eq}
-use Rattle.disk.specs.Meaning.{Block, Blocks, block, is_live, block_size, Whole}
+use Rattle.disk.specs.Meaning.{Blocks, block}
 use Rattle.card.specs.declared.Update.{Update}
-use Rattle.card.specs.Layout.{slots, homes_from, highest, log_block, start_end, homes_in, start_in, start_block, bytes_on, end_on, start_on, update_on, latest}
+use Rattle.card.specs.Layout.{homes_from, log_block, homes_in, start_in, start_block, bytes_on, latest}
 use Rattle.model.specs.declared.Round.{Round}
-use Rattle.model.specs.Card.{Ready}
 use Rattle.model.proofs.Card.{live_set, ready_set}
 use Rattle.law.proofs.Latest.{latest_here, latest_other, latest_more, latest_split}
 use Rattle.law.proofs.Blocks.{block_here, block_other, bytes_here, bytes_other, whole_set, end_same, start_same, update_same, length_start, start_zeros, start_again}
@@ -108,7 +107,7 @@ module _ (start end frozen : ℕ) (us : List Update) (homes : List ℕ) (d : Blo
 
   pub started_order : InOrder target end frozen (length rest)
   started_order = record {
-    start_end_lem = i.below;
+    start_end = i.below;
     end_frozen = o.end_frozen;
     frozen_last = omega (arith, length_rest, o.frozen_last, o.end_frozen, i.below, i.from, i.upto);
     room = omega (arith, length_rest, o.room);

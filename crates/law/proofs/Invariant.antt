@@ -23,7 +23,7 @@ at_position start us p = get_or us (p - start) absent
 
 -- the positions of a log that has n updates
 pub record InOrder (start end frozen n : ℕ) : Type 0 where
-  pub start_end_lem : start ≤ end
+  pub start_end : start ≤ end
   pub end_frozen : end ≤ frozen
   pub frozen_last : frozen ≤ start + n
   pub room : n ≤ slots

@@ -1,24 +1,22 @@
 -- A logger step keeps the log and the card together.
-use Rattle.std.proofs.Common.{◌≡◌, ℕ, zero, suc, ◌+◌, ◌-◌, ◌*◌, ◌^◌, ◌<◌, ◌≤◌, Bool, true, false, cond, ltb, List, [], ◌∷◌, ◌++◌, map, length, get_or, take, drop, set, Some, None, Ok, Option, sym, refl, ap, ◌∙◌, subst, ⊎_elim, mod-lt, arith, length-drop, length-set, length-take, get_or-drop, get_or-set_other, get_or-take, get_or-set_same}
-use Rattle.std.specs.List.{range_with_len}
-use Rattle.std.proofs.lemmas.Bool.{cases_eq, cases_lt, lt-ltb, le-ltb}
+use Rattle.std.proofs.Common.{◌≡◌, ℕ, ◌+◌, ◌-◌, ◌^◌, ◌<◌, ◌≤◌, true, List, [], ◌∷◌, length, get_or, take, drop, set, Some, Ok, sym, ap, ◌∙◌, subst, ⊎_elim, mod-lt, arith, length-drop, length-set, length-take, get_or-drop, get_or-take}
+use Rattle.std.proofs.lemmas.Bool.{cases_eq, cases_lt}
 use Rattle.std.proofs.lemmas.List.{get_or_past}
-use Rattle.disk.specs.Meaning.{Block, Blocks, block, is_live, block_size, refusal, written, Whole}
+use Rattle.disk.specs.Meaning.{Blocks, block, is_live, block_size, written}
 use Rattle.disk.proofs.Refusals.{granted, unless_none}
 use Rattle.card.specs.declared.Header.{Header}
 use Rattle.card.specs.declared.Update.{Update}
-use Rattle.card.specs.Layout.{slots, homes_from, highest, slot, log_block, header_end, header_in, home_in, homes_in, header_block, bytes_on, end_on, start_on, home_on, update_on, latest}
+use Rattle.card.specs.Layout.{slots, homes_from, slot, log_block, header_in, homes_in, header_block, bytes_on, home_on, update_on, latest}
 use Rattle.card.proofs.Headers.{header_again}
 use Rattle.card.proofs.Slots.{slots_differ}
 use Rattle.model.specs.declared.Round.{Round}
-use Rattle.model.specs.Card.{Ready}
 use Rattle.model.specs.Outcomes.{Outcome, decided}
-use Rattle.model.specs.Log.{Log, last}
-use Rattle.model.specs.Steps.{update_at, frozen_at, logging_at, ended_at, dead_for, writing, with_homes, log_round}
+use Rattle.model.specs.Log.{Log}
+use Rattle.model.specs.Steps.{dead_for, writing, with_homes}
 use Rattle.model.proofs.Card.{live_bytes, live_set, ready_set}
-use Rattle.law.proofs.Blocks.{block_here, block_other, bytes_here, bytes_other, whole_set, end_same, home_same, start_same, update_same, length_header, header_zeros}
+use Rattle.law.proofs.Blocks.{block_other, bytes_here, bytes_other, whole_set, end_same, start_same, update_same, length_header, header_zeros}
 use Rattle.law.proofs.Homes.{home_small, length_homes_in, homes_in_at, length_with_homes, with_homes_other, with_homes_here, with_homes_small}
-use Rattle.law.proofs.Invariant.{absent, Good, at_position, InOrder, OnCard, Logs, Installs, IfSome, AllGood, Kept}
+use Rattle.law.proofs.Invariant.{absent, Good, at_position, InOrder, OnCard, Logs, Installs, AllGood}
 
 -- ## A write that is granted
 
@@ -62,7 +60,7 @@ module _ (start end frozen : ℕ) (us : List Update) (homes : List ℕ) (d : Blo
   d' = set d (log_block q) (Some bytes)
 
   pub here : Good d (at_position start us q)
-  here = good (q - start) (omega (arith, o.frozen_last, o.start_end_lem, g.from, g.below))
+  here = good (q - start) (omega (arith, o.frozen_last, o.start_end, g.from, g.below))
 
   pub inside : log_block q < length d
   inside = let m = log_low q in omega (arith, c.ready.large)
@@ -100,7 +98,7 @@ module _ (start end frozen : ℕ) (us : List Update) (homes : List ℕ) (d : Blo
     below = g.below;
     logged = λ p a b. ⊎_elim
         (λ (same : p ≡ q). subst (λ (k : ℕ). bytes_on d' (log_block k) ≡ (at_position start us k).bytes) (sym same) (bytes_here d (log_block q) bytes inside))
-        (λ ne. same_log p (omega (arith, o.start_end_lem)) (omega arith) ∙ g.logged p a (omega arith))
+        (λ ne. same_log p (omega (arith, o.start_end)) (omega arith) ∙ g.logged p a (omega arith))
         (cases_eq p q);
   }
 
@@ -140,13 +138,13 @@ module _ (start end frozen : ℕ) (us : List Update) (homes : List ℕ) (d : Blo
   length_homes = ap length c.at_homes ∙ length_homes_in (bytes_on d 0)
 
   length_batch : length batch ≡ target - end
-  length_batch = length-take (target - end) (drop (end - start) us) ∙ (let m = length-drop (end - start) us in omega (arith, o.frozen_last, o.start_end_lem, g.below, g.some))
+  length_batch = length-take (target - end) (drop (end - start) us) ∙ (let m = length-drop (end - start) us in omega (arith, o.frozen_last, o.start_end, g.below, g.some))
 
   batch_at : (k : ℕ) → k < target - end → get_or batch k absent ≡ at_position start us (end + k)
-  batch_at k l = get_or-take (target - end) (drop (end - start) us) k absent l ∙ get_or-drop (end - start) us k absent ∙ ap (λ n. get_or us n absent) (let z : end - start + k ≡ end + k - start = omega (arith, o.start_end_lem) in z)
+  batch_at k l = get_or-take (target - end) (drop (end - start) us) k absent l ∙ get_or-drop (end - start) us k absent ∙ ap (λ n. get_or us n absent) (let z : end - start + k ≡ end + k - start = omega (arith, o.start_end) in z)
 
   few : target - end ≤ slots
-  few = omega (arith, o.room, o.frozen_last, o.start_end_lem, g.below)
+  few = omega (arith, o.room, o.frozen_last, o.start_end, g.below)
 
   home_new : (p : ℕ) → end ≤ p → p < target → get_or after (slot p) 0 ≡ (at_position start us p).home
   home_new p a b =
@@ -167,7 +165,7 @@ module _ (start end frozen : ℕ) (us : List Update) (homes : List ℕ) (d : Blo
       (cases_lt s slots))
       (λ k l. let lk : k < target - end = omega (arith, length_batch) in
       let e = ap (λ (u : Update). u.home) (batch_at k lk) in
-      let h = (good (end + k - start) (omega (arith, o.frozen_last, o.start_end_lem, g.below))).high in
+      let h = (good (end + k - start) (omega (arith, o.frozen_last, o.start_end, g.below))).high in
       let w = c.whole.few in omega arith)
 
   length_after : length after ≡ slots
@@ -226,7 +224,7 @@ module _ (start end frozen : ℕ) (us : List Update) (homes : List ℕ) (d : Blo
   }
 
   pub headed_order : InOrder start target frozen (length us)
-  headed_order = record { start_end_lem = omega (arith, o.start_end_lem, g.some); end_frozen = g.below; frozen_last = o.frozen_last; room = o.room; top = o.top }
+  headed_order = record { start_end = omega (arith, o.start_end, g.some); end_frozen = g.below; frozen_last = o.frozen_last; room = o.room; top = o.top }
 
   pub headed_good : AllGood us dₕ
   headed_good = good_set us d 0 (header_block header) large (c.ready.alive 0 (omega arith)) good

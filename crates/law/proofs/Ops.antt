@@ -1,9 +1,9 @@
 -- What granted calls keep.
-use Rattle.std.proofs.Common.{◌≡◌, ℕ, ◌+◌, ◌-◌, ◌<◌, ◌≤◌, Bool, true, false, cond, not, ltb, ◌⊎◌, List, [], ◌∷◌, ◌++◌, length, get_or, take, drop, set, is_some, Some, None, Ok, Option, unwrap_or, sym, refl, ap, ◌∙◌, subst, inl, inr, ⊎_elim, arith, get_or-set_same}
+use Rattle.std.proofs.Common.{◌≡◌, ℕ, ◌+◌, ◌-◌, ◌<◌, ◌≤◌, Bool, true, false, cond, ltb, List, [], ◌∷◌, ◌++◌, length, get_or, drop, set, is_some, Some, None, Option, unwrap_or, sym, refl, ap, ◌∙◌, subst, ⊎_elim, arith, get_or-set_same}
 use Rattle.std.specs.List.{AllByRecursion}
 use Rattle.std.proofs.lemmas.List.{take_all, get_or_past}
 use Rattle.std.proofs.lemmas.Bool.{ltb-false, lt-leb, le-leb, cases_lt}
-use Rattle.disk.specs.Tests.{Test, first_of, either}
+use Rattle.disk.specs.Tests.{first_of}
 use Rattle.disk.specs.Meaning.{Block, Blocks, block, is_live, block_size, bytes_or}
 use Rattle.object.specs.declared.Place.{Place}
 use Rattle.object.specs.Objects.{width, part, same}
@@ -12,28 +12,27 @@ use Rattle.object.proofs.Tables.{held_count, held_found, held_now}
 use Rattle.card.specs.declared.Update.{Update}
 use Rattle.card.specs.Layout.{slots, homes_from, highest, latest}
 use Rattle.model.specs.declared.Fault.{Fault}
-use Rattle.model.specs.Outcomes.{Outcome}
-use Rattle.model.specs.Log.{Log, last}
-use Rattle.model.specs.Steps.{newest, with_updates, frozen_at, room_tests, flush, log_step, install_step}
+use Rattle.model.specs.Log.{last}
+use Rattle.model.specs.Steps.{newest, with_updates, frozen_at, room_tests, log_step, install_step}
 use Rattle.model.specs.Operations.{place_tests, bit_tests, table_tests, dirty_blocks, committed, bytes_tests}
 use Rattle.model.specs.Journal.{Open}
-use Rattle.model.specs.Calls.{Call, begins, reads, overwrites, commits, gives_up, flushes, logs, installs, held_by, with_operation, with_log, ticket_tests, known, seen, holds, tests_of, grants}
+use Rattle.model.specs.Calls.{reads, overwrites, commits, flushes, logs, held_by, with_operation, with_log, ticket_tests, known, seen, holds, tests_of, grants}
 use Rattle.model.proofs.Tests.{none_both, none_first}
 use Rattle.model.proofs.Card.{live_set, not_false}
-use Rattle.law.specs.Record.{Record, plain, touched_by, touching, granted, lay_all, up_to}
+use Rattle.law.specs.Record.{Record, plain, touched_by, touching, granted, lay_all}
 use Rattle.law.specs.Law.{ByWrote}
-use Rattle.law.proofs.Invariant.{Good, Kept}
+use Rattle.law.proofs.Invariant.{Good}
 use Rattle.law.proofs.Absorb.{homes_of, Distinct, either_false, at_every}
 use Rattle.law.proofs.Areas.{AtMost, up_to_all}
 use Rattle.law.proofs.Rounds.{flush_kept, log_done, install_done}
-use Rattle.law.proofs.Tables.{length_part, HeldGood, TableGood, EntryGood, Tables, holding_every, every_map, table_of, tables_set, tables_same}
+use Rattle.law.proofs.Tables.{length_part, HeldGood, TableGood, EntryGood, holding_every, every_map, table_of, tables_set, tables_same}
 use Rattle.law.proofs.Committed as Committed
 use Rattle.law.proofs.Committed.{Full, latest_full, live_full}
 use Rattle.law.proofs.Told as Told
 use Rattle.law.proofs.Told.{Shows, open_homes, LogTold, settled_none, flush_told}
 use Rattle.law.proofs.CommitTold as CommitTold
 use Rattle.law.proofs.CommitTold.{split}
-use Rattle.law.proofs.Refusals.{Inv, held_touched, known_live, newest_live, Named, place_passed, table_passed, commit_due}
+use Rattle.law.proofs.Refusals.{Inv, held_touched, known_live, Named, place_passed, table_passed}
 
 -- the newest bytes of every data block are the plain area's
 pub shown_plain : (j : Open) (d : Blocks) (r : Record) → Inv j d r → (b : ℕ) → homes_from ≤ b → b < length d → newest j.log d b ≡ plain r b

@@ -1,7 +1,7 @@
 -- Calls are refused as the record and the disk say.
-use Rattle.std.proofs.Common.{◌≡◌, ℕ, suc, ◌+◌, ◌-◌, ◌%◌, ◌<◌, ◌≤◌, Bool, true, false, cond, not, eqb, ltb, leb, ◌⊎◌, List, [], ◌∷◌, ◌++◌, length, get_or, is_some, Some, None, Option, unwrap_or, sym, refl, ap, ◌∙◌, subst, inl, inr, ⊎_elim, arith}
+use Rattle.std.proofs.Common.{◌≡◌, ℕ, suc, ◌+◌, ◌%◌, ◌<◌, ◌≤◌, Bool, true, false, cond, not, eqb, ltb, leb, List, [], ◌∷◌, ◌++◌, length, get_or, is_some, Some, None, Option, unwrap_or, sym, refl, ap, ◌∙◌, subst, ⊎_elim, arith}
 use Rattle.std.specs.List.{AllByRecursion}
-use Rattle.std.proofs.lemmas.Bool.{eq-eqb, ne_eqb, eqb-true, lt-leb, le-leb, leb-false, ltb-false, lt-ltb, le-ltb, cases_lt, cases_eq}
+use Rattle.std.proofs.lemmas.Bool.{eq-eqb, ne_eqb, eqb-true, leb-false, ltb-false, lt-ltb, le-ltb, cases_lt, cases_eq}
 use Rattle.disk.specs.Tests.{Test, first_of, both, either}
 use Rattle.disk.specs.Meaning.{Block, Blocks, block, is_live}
 use Rattle.disk.specs.declared.fault.DiskFault.TheVariants.{Dead}
@@ -11,26 +11,25 @@ use Rattle.object.specs.Objects.{block_bits, allowed, width, same}
 use Rattle.object.specs.Tables.{Held, most_held, is_in, clashes, dirty_ones}
 use Rattle.object.specs.Laws.{Placed}
 use Rattle.object.proofs.Tables.{same_place}
-use Rattle.card.specs.declared.Update.{Update}
-use Rattle.card.specs.Layout.{slots, homes_from, highest, start_on, latest}
+use Rattle.card.specs.Layout.{slots, homes_from, highest, start_on}
 use Rattle.model.specs.declared.Fault.{Fault}
 use Rattle.model.specs.declared.Fault.TheVariants.{Number, Ticket, Log as InLog, Object}
 use Rattle.model.specs.declared.LogFault.TheVariants.{Full, Exhausted}
-use Rattle.model.specs.Log.{Log, last}
+use Rattle.model.specs.Log.{Log}
 use Rattle.model.specs.Steps.{newest, room_tests}
 use Rattle.model.specs.Operations.{among, place_tests, bit_tests, table_tests, dirty_blocks, committed, bytes_tests}
 use Rattle.model.specs.Journal.{Open, most_operations}
-use Rattle.model.specs.Calls.{Call, begins, reads, overwrites, commits, gives_up, flushes, logs, installs, operation, held_by, ticket_tests, known, tests_of}
+use Rattle.model.specs.Calls.{Call, begins, reads, overwrites, commits, gives_up, flushes, logs, installs, held_by, ticket_tests, known, tests_of}
 use Rattle.model.proofs.Card.{not_false}
 use Rattle.law.specs.Record.{Record, touched_by, due, refusals, open_test, changed_above}
 use Rattle.law.proofs.Invariant.{Good, Kept}
 use Rattle.law.proofs.Latest.{latest_live}
-use Rattle.law.proofs.Absorb.{homes_of, Distinct, either_false, either_assoc, at_every, latest_none}
+use Rattle.law.proofs.Absorb.{Distinct, either_false, either_assoc, at_every, latest_none}
 use Rattle.law.proofs.Commits.{count, either_true}
 use Rattle.law.proofs.Tables.{HeldGood, TableGood, Tables, table_of}
 use Rattle.law.proofs.Committed as Committed
 use Rattle.law.proofs.Told.{open_homes, LogTold}
-use Rattle.law.proofs.CommitTold.{dead_none, dead_home, split}
+use Rattle.law.proofs.CommitTold.{dead_home, split}
 
 -- ## Everything that holds between calls
 

@@ -1,20 +1,20 @@
 -- What an opening finds on a card that was kept.
-use Rattle.std.proofs.Common.{◌≡◌, ℕ, ◌+◌, ◌-◌, ◌<◌, ◌≤◌, true, List, [], ◌∷◌, map, length, get_or, take, Some, None, Ok, sym, refl, ap, ◌∙◌, subst, arith, length-take, get_or-take}
+use Rattle.std.proofs.Common.{◌≡◌, ℕ, ◌+◌, ◌-◌, ◌<◌, ◌≤◌, true, List, [], map, length, get_or, take, Some, None, sym, refl, ap, ◌∙◌, subst, arith, length-take, get_or-take}
 use Rattle.std.specs.List.{range_with_len}
 use Rattle.std.proofs.lemmas.List.{same_lists, get_or_default}
 use Rattle.std.proofs.lemmas.List.FromFn.{length-map-range_with_len, get_or-map-range_with_len}
 use Rattle.disk.specs.Meaning.{Blocks, block, is_live}
 use Rattle.card.specs.declared.Update.{Update}
-use Rattle.card.specs.Layout.{slots, homes_from, highest, slot, homes_in, bytes_on, end_on, start_on, home_on, update_on, live_updates, latest, area}
+use Rattle.card.specs.Layout.{slot, homes_in, bytes_on, end_on, start_on, home_on, update_on, live_updates, latest, area}
 use Rattle.model.specs.Outcomes.{answering}
 use Rattle.model.specs.Log.{Log, log_on}
 use Rattle.model.specs.Journal.{shut, opened_with, opening}
 use Rattle.model.specs.Sound.{Sound}
-use Rattle.model.proofs.Calls.{opens, opening_granted}
+use Rattle.model.proofs.Calls.{opening_granted}
 use Rattle.model.proofs.Opening.{opening_law}
 use Rattle.model.proofs.Tests.{map_counting_same}
 use Rattle.law.specs.Law.{durable_part}
-use Rattle.law.proofs.Invariant.{absent, Good, at_position, InOrder, OnCard, Kept}
+use Rattle.law.proofs.Invariant.{absent, Good, at_position, Kept}
 
 -- updates by position
 taken_are : (us : List Update) (start n : ℕ) → n ≤ length us → take n us ≡ map (at_position start us) (range_with_len start n)
@@ -31,7 +31,7 @@ module _ (l : Log) (d : Blocks) (k : Kept l d) where
   n = l.end - l.start
 
   fits : n ≤ length l.updates
-  fits = omega (arith, k.order.end_frozen, k.order.frozen_last, k.order.start_end_lem)
+  fits = omega (arith, k.order.end_frozen, k.order.frozen_last, k.order.start_end)
 
   pub kept_sound : Sound d
   kept_sound =
@@ -41,7 +41,7 @@ module _ (l : Log) (d : Blocks) (k : Kept l d) where
         ready = k.card.ready;
         zeros_end = k.card.zeros_end;
         zeros_start = k.card.zeros_start;
-        order = omega (arith, k.order.start_end_lem);
+        order = omega (arith, k.order.start_end);
         few = omega (arith, k.order.end_frozen, k.order.frozen_last, k.order.room);
         top = omega (arith, k.order.end_frozen, k.order.frozen_last, k.order.top);
         homes = λ p a b.
@@ -53,7 +53,7 @@ module _ (l : Log) (d : Blocks) (k : Kept l d) where
   live_are : live_updates d ≡ take n l.updates
   live_are =
       sym (taken_are l.updates l.start n fits ∙
-      map_counting_same (at_position l.start l.updates) (update_on d) l.start n (λ p a b. k.card.live p a (omega (arith, k.order.start_end_lem))) ∙
+      map_counting_same (at_position l.start l.updates) (update_on d) l.start n (λ p a b. k.card.live p a (omega (arith, k.order.start_end))) ∙
       ap (λ (x : ℕ × ℕ). map (update_on d) (range_with_len x.0 (x.1 - x.0))) (let z : ◌≡◌ {A = ℕ × ℕ} (l.start, l.end) (start_on d, end_on d) = ap (λ x. (x, l.end)) k.card.at_start ∙ ap (λ y. (start_on d, y)) k.card.at_end in z))
 
   pub kept_log : log_on d ≡ durable_part l
@@ -76,7 +76,7 @@ module _ (l : Log) (d : Blocks) (k : Kept l d) where
   durable_kept =
       let t = length-take n l.updates in
       record {
-        order = record { start_end_lem = k.order.start_end_lem; end_frozen = omega arith; frozen_last = omega (arith, fits, k.order.start_end_lem); room = omega (arith, k.order.room); top = omega (arith, k.order.top) };
+        order = record { start_end = k.order.start_end; end_frozen = omega arith; frozen_last = omega (arith, fits, k.order.start_end); room = omega (arith, k.order.room); top = omega (arith, k.order.top) };
         card = record {
           whole = k.card.whole;
           ready = k.card.ready;

@@ -1,11 +1,10 @@
 -- What a logger step, an installer step and a flush do to a log that is kept.
-use Rattle.std.proofs.Common.{◌≡◌, ℕ, ◌+◌, ◌-◌, ◌<◌, ◌≤◌, Bool, true, false, cond, ltb, leb, ◌⊎◌, List, [], ◌∷◌, length, get_or, take, drop, set, Some, None, Ok, Option, sym, refl, ap, ◌∙◌, subst, inl, inr, ⊎_elim, arith, length-drop, length-take, get_or-take, take-take}
+use Rattle.std.proofs.Common.{◌≡◌, ℕ, ◌+◌, ◌-◌, ◌<◌, ◌≤◌, Bool, true, cond, ltb, ◌⊎◌, List, [], length, take, drop, set, Some, None, Ok, Option, sym, refl, ap, ◌∙◌, subst, inl, inr, ⊎_elim, arith, length-drop, length-take, get_or-take, take-take}
 use Rattle.std.proofs.lemmas.List.{drop-take}
 use Rattle.std.proofs.lemmas.Bool.{cases_eq, cases_lt, lt-ltb, le-ltb}
-use Rattle.disk.specs.Meaning.{Block, Blocks, block, is_live, block_size}
-use Rattle.card.specs.declared.Header.{Header}
+use Rattle.disk.specs.Meaning.{Blocks, block, is_live, block_size}
 use Rattle.card.specs.declared.Update.{Update}
-use Rattle.card.specs.Layout.{slots, homes_from, slot, log_block, header_block, start_block, home_on, bytes_on, end_on, start_on, latest}
+use Rattle.card.specs.Layout.{homes_from, log_block, header_block, start_block, end_on, start_on, latest}
 use Rattle.model.specs.declared.Round.{Round}
 use Rattle.model.specs.Outcomes.{Outcome, answering}
 use Rattle.model.specs.Log.{Log, last}
@@ -13,11 +12,11 @@ use Rattle.model.specs.Steps.{update_at, frozen_at, logging_at, installing_at, e
 use Rattle.law.specs.Law.{ByWrote, LogsAt, InstallsAt, HomesKept}
 use Rattle.model.proofs.Card.{live_bytes}
 use Rattle.law.proofs.Latest.{latest_split, latest_at}
-use Rattle.law.proofs.Blocks.{block_here, block_other, end_same, home_same, bytes_other, length_start}
+use Rattle.law.proofs.Blocks.{block_here, block_other, home_same, bytes_other, length_start}
 use Rattle.law.proofs.Logger as logger
 use Rattle.law.proofs.Logger.{wrote_one, writing_granted, log_low}
 use Rattle.law.proofs.Installer as installer
-use Rattle.law.proofs.Invariant.{absent, Good, at_position, InOrder, OnCard, Logs, Installs, IfSome, AllGood, Kept}
+use Rattle.law.proofs.Invariant.{absent, Logs, Installs, IfSome, Kept}
 
 pub if_some_map : {P Q : Round → Type 0} (o : Option Round) → ((r : Round) → P r → Q r) → IfSome o P → IfSome o Q
 if_some_map None f h = tt
@@ -27,7 +26,7 @@ if_some_map (Some r) f h = f r h
 
 pub flush_kept : (l : Log) (d : Blocks) → Kept l d → Kept (frozen_at l (last l)) d
 flush_kept l d k = record {
-  order = record { start_end_lem = k.order.start_end_lem; end_frozen = omega (arith, k.order.end_frozen, k.order.frozen_last); frozen_last = omega arith; room = k.order.room; top = k.order.top };
+  order = record { start_end = k.order.start_end; end_frozen = omega (arith, k.order.end_frozen, k.order.frozen_last); frozen_last = omega arith; room = k.order.room; top = k.order.top };
   card = k.card;
   good = k.good;
   logging = if_some_map l.logging (λ r g. record { from = g.from; upto = g.upto; some = g.some; below = omega (arith, g.below, k.order.frozen_last); logged = g.logged }) k.logging;
@@ -361,7 +360,7 @@ install_by_lem None l d k i =
     subst (InstallDone l d) (sym (ap (λ t. cond t (install_round l r d) (answering l.start [] l d)) (lt-ltb l.start l.end a))) (install_round_lem l d k r i₀))
     (λ (a : l.end ≤ l.start).
     subst (InstallDone l d) (sym (ap (λ t. cond t (install_round l r d) (answering l.start [] l d)) (le-ltb l.start l.end a)))
-    (record { kept = k; answer = refl; buffer = refl; writes = refl; places = omega (arith, k.card.at_start, k.card.at_end, k.order.start_end_lem); shown = λ q b x y. refl; end = refl; frozen = refl; reach = refl; logging = refl; later = λ p x. refl }))
+    (record { kept = k; answer = refl; buffer = refl; writes = refl; places = omega (arith, k.card.at_start, k.card.at_end, k.order.start_end); shown = λ q b x y. refl; end = refl; frozen = refl; reach = refl; logging = refl; later = λ p x. refl }))
     (cases_lt l.start l.end)
 
 pub install_done : (l : Log) (d : Blocks) → Kept l d → InstallDone l d (install_step l d)

@@ -1,33 +1,29 @@
 -- Every call keeps what holds, and does what the record says.
-use Rattle.std.proofs.Common.{◌≡◌, ℕ, ◌+◌, ◌-◌, ◌%◌, ◌<◌, ◌≤◌, Bool, true, false, cond, not, eqb, ltb, leb, ◌⊎◌, List, [], ◌∷◌, ◌++◌, length, get_or, take, set, is_some, IfErr, Some, None, Ok, Err, Option, Result, unwrap_or, sym, refl, ap, ◌∙◌, subst, inl, inr, ⊎_elim, arith}
+use Rattle.std.proofs.Common.{◌≡◌, ℕ, ◌+◌, ◌-◌, ◌%◌, ◌≤◌, not, eqb, ltb, leb, List, [], ◌∷◌, ◌++◌, length, get_or, is_some, IfErr, Some, None, Ok, Option, Result, unwrap_or, sym, refl, ap, ◌∙◌, subst, arith}
 use Rattle.std.proofs.lemmas.List.{take_all}
-use Rattle.disk.specs.Tests.{Test, first_of, unless, either}
+use Rattle.disk.specs.Tests.{first_of, either}
 use Rattle.disk.specs.Meaning.{Block, Blocks, block, is_live, bytes_or}
 use Rattle.object.specs.declared.Place.{Place}
 use Rattle.object.specs.Objects.{block_bits, allowed, width, part}
-use Rattle.object.specs.Tables.{Held, value_in, is_in, holding, dirty_ones}
-use Rattle.object.proofs.Tables.{held_now}
+use Rattle.object.specs.Tables.{Held, value_in}
 use Rattle.card.specs.declared.Update.{Update}
-use Rattle.card.specs.Layout.{homes_from, end_on, start_on, latest}
+use Rattle.card.specs.Layout.{homes_from, end_on, latest}
 use Rattle.object.specs.declared.ObjectFault.TheVariants.{Size, Misplaced, Buffer}
 use Rattle.model.specs.declared.Fault.{Fault}
 use Rattle.model.specs.declared.Fault.TheVariants.{Ticket, Object}
-use Rattle.model.specs.Outcomes.{Outcome, decided, within}
+use Rattle.model.specs.Outcomes.{Outcome, decided}
 use Rattle.model.specs.Log.{Log, last}
 use Rattle.model.specs.Steps.{newest, log_step, install_step}
-use Rattle.model.specs.Operations.{among, place_tests, table_tests, dirty_blocks, committed}
+use Rattle.model.specs.Operations.{place_tests, table_tests, committed}
 use Rattle.model.specs.Journal.{Open, View}
 use Rattle.model.specs.Calls.{Call, begins, reads, overwrites, commits, gives_up, flushes, logs, installs, buffer_of, held_by, with_log, ticket_tests, known, seen, tests_of, grants, called, outcome}
 use Rattle.model.proofs.Tests.{none_both}
-use Rattle.law.specs.Record.{Record, touched_by, granted, noted, due, refusals}
-use Rattle.law.specs.Law.{as_told, Told, Unaltered, ByWrote, WritesOne, WritesNone, Writes, SameReads, LogsAt, InstallsAt, HomesKept, Fresh, AfterCall}
-use Rattle.law.proofs.Rounds.{LogDone, log_done, InstallDone, install_done}
-use Rattle.law.proofs.Tables.{table_of}
+use Rattle.law.specs.Record.{Record, granted, noted}
+use Rattle.law.specs.Law.{as_told, Told, Unaltered, ByWrote, Writes, SameReads, LogsAt, AfterCall}
+use Rattle.law.proofs.Rounds.{log_done, install_done}
 use Rattle.law.proofs.Told as Told₂
-use Rattle.law.proofs.CommitTold as CommitTold
-use Rattle.law.proofs.CommitTold.{split}
-use Rattle.law.proofs.Refusals.{Inv, refused_same, known_live, Named, place_passed, commit_due, held_touched}
-use Rattle.law.proofs.Ops.{begun_inv, given_up_inv, overwritten_inv, read_inv, read_fills, commit_inv, flush_inv, log_inv, install_inv, wrote_live, in_range}
+use Rattle.law.proofs.Refusals.{Inv, refused_same, known_live, place_passed}
+use Rattle.law.proofs.Ops.{begun_inv, given_up_inv, overwritten_inv, read_inv, commit_inv, flush_inv, log_inv, install_inv, wrote_live}
 
 -- ## What holds after a call
 

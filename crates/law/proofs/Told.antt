@@ -1,11 +1,9 @@
 -- What the log shows at its marks is what the record says.
-use Rattle.std.proofs.Common.{◌≡◌, ℕ, ◌+◌, ◌-◌, ◌<◌, ◌≤◌, max, Bool, true, false, cond, ltb, leb, ◌⊎◌, List, [], ◌∷◌, ◌++◌, length, get_or, take, drop, set, Some, None, Option, sym, refl, ap, ◌∙◌, subst, inl, inr, ⊎_elim, arith, length-drop, length-set, get_or-drop}
-use Rattle.std.specs.Option.{option_map}
+use Rattle.std.proofs.Common.{◌≡◌, ℕ, ◌+◌, ◌-◌, ◌<◌, ◌≤◌, max, Bool, true, false, cond, ltb, leb, List, [], ◌∷◌, ◌++◌, length, get_or, take, drop, set, Some, None, Option, sym, refl, ap, ◌∙◌, subst, ⊎_elim, arith, length-drop, length-set, get_or-drop}
 use Rattle.std.specs.List.{AllByRecursion}
 use Rattle.std.proofs.lemmas.Bool.{lt-leb, le-leb, lt-ltb, le-ltb, cases_lt}
 use Rattle.std.proofs.lemmas.List.{drop_all, same_lists, get_or_default}
-use Rattle.disk.specs.Meaning.{Block, Blocks, block, is_live, block_size}
-use Rattle.object.specs.Tables.{Held, dirty_ones}
+use Rattle.disk.specs.Meaning.{Blocks, block, is_live, block_size}
 use Rattle.card.specs.declared.Update.{Update}
 use Rattle.card.specs.Layout.{homes_from, latest, Area}
 use Rattle.model.specs.declared.Round.{Round}
@@ -16,8 +14,8 @@ use Rattle.model.specs.Operations.{among}
 use Rattle.law.specs.Record.{Commit, lay_all, up_to, blocks_of, changed_above}
 use Rattle.law.specs.Law.{ByWrote}
 use Rattle.law.proofs.Invariant.{absent, Logs, IfSome, Kept}
-use Rattle.law.proofs.Absorb.{homes_of, Distinct}
-use Rattle.law.proofs.Areas.{AtMost, Rising, up_to_all}
+use Rattle.law.proofs.Absorb.{homes_of}
+use Rattle.law.proofs.Areas.{AtMost, Rising}
 use Rattle.law.proofs.Rounds.{if_some_map, LogDone, log_done, Moves, round_of, working, LogGoes, log_goes, InstallDone, install_done}
 
 -- up to position q the log shows the first area with the commits up to q laid on
@@ -217,12 +215,12 @@ module _ (first : Area) (commits : List Commit) where
     -- the updates from frozen on are the same list
     pub open_same : open_homes mᵢ ≡ open_homes l
     open_same = ap homes_of (same_lists (drop (mᵢ.frozen - mᵢ.start) mᵢ.updates) (drop (l.frozen - l.start) l.updates)
-        (length-drop (mᵢ.frozen - mᵢ.start) mᵢ.updates ∙ (let a = length-drop (l.frozen - l.start) l.updates in let b = doneᵢ.kept.order.frozen_last in let c = doneᵢ.kept.order.end_frozen in let e = doneᵢ.kept.order.start_end_lem in omega (arith, doneᵢ.frozen, doneᵢ.reach, k.order.frozen_last, k.order.end_frozen, k.order.start_end_lem)))
+        (length-drop (mᵢ.frozen - mᵢ.start) mᵢ.updates ∙ (let a = length-drop (l.frozen - l.start) l.updates in let b = doneᵢ.kept.order.frozen_last in let c = doneᵢ.kept.order.end_frozen in let e = doneᵢ.kept.order.start_end in omega (arith, doneᵢ.frozen, doneᵢ.reach, k.order.frozen_last, k.order.end_frozen, k.order.start_end)))
         (λ i x lt. get_or-drop (mᵢ.frozen - mᵢ.start) mᵢ.updates i x ∙ get_or_default mᵢ.updates (mᵢ.frozen - mᵢ.start + i) x absent (let a = length-drop (mᵢ.frozen - mᵢ.start) mᵢ.updates in omega arith) ∙
-        ap (λ n. get_or mᵢ.updates n absent) (let e = doneᵢ.kept.order.end_frozen in let f = doneᵢ.kept.order.start_end_lem in let z : mᵢ.frozen - mᵢ.start + i ≡ l.frozen + i - mᵢ.start = omega (arith, doneᵢ.frozen) in z) ∙
+        ap (λ n. get_or mᵢ.updates n absent) (let e = doneᵢ.kept.order.end_frozen in let f = doneᵢ.kept.order.start_end in let z : mᵢ.frozen - mᵢ.start + i ≡ l.frozen + i - mᵢ.start = omega (arith, doneᵢ.frozen) in z) ∙
         doneᵢ.later (l.frozen + i) (omega (arith, k.order.end_frozen)) ∙
-        ap (λ n. get_or l.updates n absent) (let z : l.frozen + i - l.start ≡ l.frozen - l.start + i = omega (arith, k.order.end_frozen, k.order.start_end_lem) in z) ∙
-        sym (get_or-drop (l.frozen - l.start) l.updates i x ∙ get_or_default l.updates (l.frozen - l.start + i) x absent (let a = length-drop (mᵢ.frozen - mᵢ.start) mᵢ.updates in let e = doneᵢ.kept.order.end_frozen in let f = doneᵢ.kept.order.start_end_lem in omega (arith, doneᵢ.frozen, doneᵢ.reach, k.order.end_frozen, k.order.start_end_lem)))))
+        ap (λ n. get_or l.updates n absent) (let z : l.frozen + i - l.start ≡ l.frozen - l.start + i = omega (arith, k.order.end_frozen, k.order.start_end) in z) ∙
+        sym (get_or-drop (l.frozen - l.start) l.updates i x ∙ get_or_default l.updates (l.frozen - l.start + i) x absent (let a = length-drop (mᵢ.frozen - mᵢ.start) mᵢ.updates in let e = doneᵢ.kept.order.end_frozen in let f = doneᵢ.kept.order.start_end in omega (arith, doneᵢ.frozen, doneᵢ.reach, k.order.end_frozen, k.order.start_end)))))
 
     targets : (x : Option Round) → IfSome x (Logs l.start l.end l.frozen l.updates d) → IfSome x (λ r. Shows l d first commits r.target) → IfSome x (λ r. Shows mᵢ oᵢ.disk first commits r.target)
     targets None g h = tt

@@ -1,5 +1,5 @@
 -- The crash law: what holds of every run, cuts at any moment among its events.
-use Rattle.std.specs.Prelude.{◌≡◌, ℕ, ◌+◌, ◌-◌, ◌*◌, ◌<◌, ◌≤◌, Bool, true, ◌⊎◌, List, [], ◌∷◌, ◌++◌, map, length, take, replicate, IfSome, IfOk, IfErr, Some, None, Ok, Err, Option, Result, MatchOption, MatchResult, ◌≢◌, slice_set}
+use Rattle.std.specs.Prelude.{◌≡◌, ℕ, ◌+◌, ◌-◌, ◌*◌, ◌<◌, ◌≤◌, true, ◌⊎◌, List, [], ◌∷◌, ◌++◌, length, take, IfSome, IfOk, IfErr, Some, None, Ok, Err, Option, Result, MatchOption, MatchResult, ◌≢◌, slice_set}
 use Rattle.std.specs.Option.{unwrap_or}
 use Rattle.std.specs.List.{AllByRecursion}
 use Rattle.disk.specs.Meaning.{Blocks, block, is_live, block_size, Whole}
@@ -7,7 +7,7 @@ use Rattle.disk.specs.Tests.{first_of, unless}
 use Rattle.object.specs.declared.Place.{Place}
 use Rattle.object.specs.Objects.{width}
 use Rattle.object.specs.Tables.{Held, most_held, value_in, dirty_ones}
-use Rattle.card.specs.Layout.{slots, homes_from, highest, slot, log_block, end_on, start_on, home_on, bytes_on, area}
+use Rattle.card.specs.Layout.{slots, homes_from, highest, slot, log_block, end_on, start_on, home_on, area}
 use Rattle.model.specs.declared.Fault.{Fault}
 use Rattle.model.specs.Outcomes.{Outcome}
 use Rattle.model.specs.Log.{Log, last}
@@ -100,7 +100,7 @@ abbrev pub AtMost : ℕ → Option (List Held) → Type 0
 AtMost n o = IfSome o (λ hs. length hs ≤ n)
 
 pub record Ordered (j : Open) : Type 0 where
-  pub start_end_lem : j.log.start ≤ j.log.end
+  pub start_end : j.log.start ≤ j.log.end
   pub end_frozen : j.log.end ≤ j.log.frozen
   pub frozen_last : j.log.frozen ≤ last j.log
   pub room : length j.log.updates ≤ slots

@@ -1,9 +1,8 @@
 -- The record of what callers did and were told. It is kept from the calls, their answers and the cards that openings find, and from nothing inside the journal.
-use Rattle.std.specs.Prelude.{ℕ, ◌+◌, max, Bool, true, false, cond, not, List, [], ◌∷◌, ◌++◌, length, replicate, is_some, Some, None, Ok, Err, Option, Result, ◌==◌, nat_le, nat_lt, slice_index_or, slice_set}
+use Rattle.std.specs.Prelude.{ℕ, ◌+◌, max, true, false, cond, not, List, [], ◌∷◌, ◌++◌, length, replicate, is_some, Some, None, Ok, Err, Option, Result, ◌==◌, nat_le, nat_lt, slice_index_or, slice_set}
 use Rattle.std.specs.Option.{option_map, unwrap_or}
-use Rattle.disk.specs.Meaning.{Block, Blocks, block, is_live, bytes_or}
+use Rattle.disk.specs.Meaning.{Blocks, block, is_live, bytes_or}
 use Rattle.disk.specs.Tests.{Test, either}
-use Rattle.object.specs.declared.Place.{Place}
 use Rattle.object.specs.Objects.{part, laid}
 use Rattle.object.specs.Tables.{Held, is_in, holding, dirty_ones}
 use Rattle.card.specs.Layout.{slots, highest, end_on, start_on, Area, area}

@@ -1,6 +1,5 @@
 -- The homes of the live positions.
-use Rattle.std.proofs.Common.{◌≡◌, ℕ, ◌+◌, ◌-◌, ◌<◌, ◌≤◌, cond, ltb, leb, List, map, length, get_or, take, set, Some, None, Ok, Err, Option, Result, unwrap_or, sym, refl, ap, ◌∙◌, subst, ⊎_elim, arith, length-set, length-take, get_or-set_other, get_or-take, get_or-set_same}
-use Rattle.std.specs.List.{range_with_len}
+use Rattle.std.proofs.Common.{◌≡◌, ℕ, ◌+◌, ◌-◌, ◌<◌, ◌≤◌, cond, leb, List, map, length, get_or, take, set, Some, None, Ok, Option, unwrap_or, sym, refl, ap, ◌∙◌, subst, ⊎_elim, arith, length-take, get_or-set_other, get_or-take, get_or-set_same}
 use Rattle.std.specs.Option.{option_map}
 use Rattle.std.proofs.lemmas.List.{same_lists, length-map, get_or-map, get_or_default}
 use Rattle.std.proofs.lemmas.List.FromFn.{length-map-range_with_len, get_or-map-range_with_len}
@@ -16,8 +15,8 @@ use Rattle.journal.specs.declared.opened.Open.{Open}
 use Rattle.journal.specs.View.{view_of}
 use Rattle.model.specs.Log.{Log, log_on}
 use Rattle.model.specs.Journal.{View, opened_with, opening}
-use Rattle.model.proofs.Calls.{opens, opening_granted}
-use Rattle.list_card.specs.Listing.{Lives, Fields, home_of, homes_of, row_homes, fields_of, listed}
+use Rattle.model.proofs.Calls.{opening_granted}
+use Rattle.list_card.specs.Listing.{Lives, home_of, homes_of, row_homes, fields_of, listed}
 
 pub home_live : (l : Memory) (p : ℕ) → l.start ≤ p → p < l.end → unwrap_or (home_at l p) 0 ≡ (row_at l.ring.rows p).home
 home_live l p a b =
@@ -69,3 +68,7 @@ module _ (d : Blocks) (e : ℕ) (ok : Ok e ≡ (opening None d).answer) (s : Opt
       ap (λ m. record { blocks = m; refusal = 0; place = 0; live = Some lives }) at_n ∙
       ap (λ x. record { blocks = length d; refusal = 0; place = 0; live = Some x }) (at-l ∙ homes_told d l found) ∙
       sym (ap (λ o. fields_of (length d) o.answer o.state) opened)
+
+-- the positions of the log of an open journal
+pub found_near : (d : Blocks) (e : ℕ) → Ok e ≡ (opening None d).answer → (l : Memory) → Some (opened_with (log_view l)) ≡ (opening None d).state → l.end ≤ l.start + 62
+found_near d e ok l is = omega (arith, l.order.1, l.order.2, l.room)

@@ -1,5 +1,5 @@
 -- What a listing says, and what it has to say of a card.
-use Rattle.std.specs.Prelude.{ℕ, ◌-◌, List, map, length, take, Some, None, Ok, Err, Option, Result}
+use Rattle.std.specs.Prelude.{ℕ, ◌-◌, List, map, length, take, None, Ok, Err, Option, Result}
 use Rattle.std.specs.Option.{option_map}
 use Rattle.disk.specs.Meaning.{Blocks}
 use Rattle.card.specs.declared.Update.{Update}

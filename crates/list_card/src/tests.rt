@@ -12,7 +12,7 @@ fn listed(heap: Global, len: usize, bytes: &[(usize, u8)]) -> Result<String, Fai
             *place = *byte;
         }
     }
-    Ok(format!(heap, "{}", listing(card))?)
+    Ok(format!(in heap; "{}", listing(card))?)
 }
 
 // That a card of so many blocks is refused, with this number and place.
@@ -25,8 +25,7 @@ fn check_refused(
     place: u32,
 ) -> Result<(), Fail> {
     let found = listed(heap, blocks as usize * 512, bytes)?;
-    let refused = format!(
-        heap,
+    let refused = format!(in heap;
         "blocks={blocks}\nrefusal={number}\nplace={place}\nstart=-\nend=-\nhomes=-\n"
     )?;
     assert_eq!(rt; found, refused);
@@ -86,7 +85,7 @@ fn sixty_two_positions_that_wrap(rt: HostRuntime) -> Result<(), Fail> {
     )?;
     for p in 11..72u8 {
         let home = 64 + p % 62 % 6;
-        wanted.push_str(format!(heap, ",{home}")?.as_str())?;
+        wanted.push_str(format!(in heap; ",{home}")?.as_str())?;
     }
     wanted.push_str("\n")?;
     assert_eq!(rt; listed(heap, 70 * 512, bytes.as_slice())?, wanted);

@@ -1,5 +1,5 @@
 -- A card that format takes: large enough, and its first 64 blocks live.
-use Rattle.std.proofs.Common.{◌≡◌, ℕ, ◌+◌, ◌<◌, ◌≤◌, Bool, true, false, cond, not, leb, List, [], map, length, get_or, set, Some, None, Option, sym, refl, ap, ◌∙◌, subst, ⊎_elim, arith, length-set, get_or-set_other, get_or-set_same}
+use Rattle.std.proofs.Common.{◌≡◌, ℕ, ◌<◌, Bool, true, false, cond, not, leb, List, [], map, length, set, Some, None, sym, refl, ap, ◌∙◌, subst, ⊎_elim, arith, length-set, get_or-set_other, get_or-set_same}
 use Rattle.std.specs.List.{range_with_len}
 use Rattle.std.proofs.lemmas.Bool.{lt-leb, leb-false, cases_eq}
 use Rattle.disk.specs.Tests.{first_of}
@@ -8,8 +8,8 @@ use Rattle.disk.proofs.Refusals.{granted, unless_none}
 use Rattle.card.specs.Layout.{homes_from, bytes_on}
 use Rattle.model.specs.declared.LogFault.TheVariants.{Small}
 use Rattle.model.specs.Card.{Ready}
-use Rattle.model.specs.Log.{size_tests, dead_test, card_tests}
-use Rattle.model.proofs.Tests.{past, none_first, none_from, none_each}
+use Rattle.model.specs.Log.{dead_test, card_tests}
+use Rattle.model.proofs.Tests.{none_first, none_from, none_each}
 
 pub not_false : (b : Bool) → not b ≡ false → b ≡ true
 not_false true e = refl

@@ -1,14 +1,12 @@
 -- Format after a power cut in format.
-use Rattle.std.proofs.Common.{◌≡◌, ℕ, ◌<◌, List, [], ◌∷◌, set, Some, None, Ok, Err, Option, sym, refl, ap, ◌∙◌, inl, inr, ⊎_elim, arith, set-set}
+use Rattle.std.proofs.Common.{◌≡◌, ℕ, [], ◌∷◌, set, Some, Ok, sym, refl, ap, ◌∙◌, ⊎_elim, arith, set-set}
 use lib.Seq.{set_comm}
 use Rattle.std.specs.Option.{option_map}
-use Rattle.disk.specs.Tests.{first_of}
 use Rattle.disk.specs.Meaning.{Blocks}
-use Rattle.model.specs.declared.LogFault.{LogFault}
 use Rattle.model.specs.declared.Fault.TheVariants.{Log as InLog}
-use Rattle.model.specs.Outcomes.{Outcome, decided}
+use Rattle.model.specs.Outcomes.{decided}
 use Rattle.model.specs.Log.{card_tests, zeros, half_formatted, formatted}
-use Rattle.model.specs.Journal.{shut, format, FormatLeaves, FormatAgain}
+use Rattle.model.specs.Journal.{shut, format, FormatAgain}
 use Rattle.model.proofs.Tests.{first_mapped}
 use Rattle.model.specs.Card.{Ready}
 use Rattle.model.proofs.Card.{ready_card, ready_written, ready_set}

@@ -1,5 +1,5 @@
 -- An opening takes the sound cards and no others.
-use Rattle.std.proofs.Common.{◌≡◌, ℕ, zero, suc, ◌+◌, ◌-◌, ◌<◌, ◌≤◌, Bool, true, false, cond, not, eqb, ltb, leb, List, [], ◌∷◌, ◌++◌, map, length, get_or, drop, Some, None, Ok, Option, sym, refl, ap, ◌∙◌, subst, arith, length-drop, get_or-drop}
+use Rattle.std.proofs.Common.{◌≡◌, ℕ, zero, suc, ◌+◌, ◌-◌, ◌<◌, ◌≤◌, Bool, true, false, cond, not, eqb, ltb, leb, List, [], ◌∷◌, ◌++◌, map, length, get_or, drop, Some, None, Option, sym, refl, ap, ◌∙◌, arith, length-drop, get_or-drop}
 use Rattle.std.specs.Option.{option_map}
 use Rattle.std.proofs.lemmas.Bool.{eq-eqb, eqb-true, leb-false, lt-leb, ltb-false, le-ltb}
 use Rattle.disk.specs.Tests.{first_of, either}
@@ -9,10 +9,9 @@ use Rattle.card.specs.Layout.{slots, homes_from, highest, slot, header_end, star
 use Rattle.model.specs.declared.Fault.{Fault}
 use Rattle.model.specs.declared.Fault.TheVariants.{Log as InLog}
 use Rattle.model.specs.declared.LogFault.TheVariants.{Reserved, Positions}
-use Rattle.model.specs.Card.{Ready}
 use Rattle.model.specs.Outcomes.{decided}
 use Rattle.model.specs.Log.{card_tests, reserved_tests, position_tests, head_tests, range_test, life_test, home_tests, opening_tests}
-use Rattle.model.specs.Journal.{View, shut, opening, open_tests}
+use Rattle.model.specs.Journal.{shut, open_tests}
 use Rattle.model.specs.Sound.{Sound, OpeningLaw}
 use Rattle.model.proofs.Tests.{past, first_mapped, none_first, none_both, none_from, none_each}
 use Rattle.model.proofs.Card.{card_ready, ready_card, live_bytes, not_false}

@@ -1,6 +1,5 @@
 -- The refusals of format and of opening, in order.
-use Rattle.std.proofs.Common.{◌≡◌, ℕ, ◌≤◌, cond, ltb, List, [], ◌∷◌, ◌++◌, map, Some, None, Err, refl, ap, ◌∙◌}
-use Rattle.disk.specs.Tests.{first_of}
+use Rattle.std.proofs.Common.{◌≡◌, ℕ, ◌≤◌, cond, List, [], ◌∷◌, ◌++◌, map, Some, refl, ap, ◌∙◌}
 use Rattle.std.specs.List.{AllByRecursion}
 use Rattle.std.proofs.lemmas.List.{map-append}
 use Rattle.std.proofs.lemmas.Bool.{le-ltb}
@@ -8,13 +7,11 @@ use Rattle.disk.specs.declared.fault.Layer.TheVariants as layers
 use Rattle.disk.specs.Meaning.{Blocks}
 use Rattle.card.specs.Layout.{homes_from, log_block, live_positions}
 use Rattle.model.specs.Log.{Log, card_tests, range_test, life_test}
-use Rattle.model.specs.declared.Fault.{Fault}
-use Rattle.model.specs.declared.Fault.TheVariants.{Shut}
-use Rattle.model.specs.Outcomes.{refused_by, decided, within}
+use Rattle.model.specs.Outcomes.{decided, within}
 use Rattle.model.specs.Operations.{dirty_blocks, bytes_tests}
-use Rattle.model.specs.Calls.{Call, begins, reads, overwrites, commits, gives_up, flushes, logs, installs, buffer_of, outcome, held_by, tests_of, grants}
-use Rattle.model.specs.Journal.{Open, View, of_log}
-use Rattle.model.specs.Order.{Told, told, by_log, format_order, home_at, FormatOrder, OpeningOrder, by_operation, by_object, order_of, CallsOrder}
+use Rattle.model.specs.Calls.{Call, begins, reads, overwrites, commits, gives_up, flushes, logs, installs, buffer_of, held_by, tests_of, grants}
+use Rattle.model.specs.Journal.{Open, of_log}
+use Rattle.model.specs.Order.{told, by_log, format_order, home_at, FormatOrder, OpeningOrder, by_operation, by_object, order_of, CallsOrder}
 
 pub format_order_lem : FormatOrder
 unfolding card_tests

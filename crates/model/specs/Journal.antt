@@ -1,5 +1,5 @@
 -- The journal: what making one, format and opening answer and leave.
-use Rattle.std.specs.Prelude.{◌≡◌, ℕ, Bool, ◌⊎◌, List, [], ◌∷◌, ◌++◌, map, replicate, is_some, Some, None, Ok, Option}
+use Rattle.std.specs.Prelude.{◌≡◌, ℕ, ◌⊎◌, List, [], ◌∷◌, map, replicate, is_some, Some, None, Ok, Option}
 use Rattle.object.specs.Tables.{Held}
 use Rattle.disk.specs.Tests.{Test, first_of}
 use Rattle.disk.specs.Meaning.{Blocks}

@@ -1,5 +1,5 @@
 -- What operations test of an object, and how their dirty objects become updates.
-use Rattle.std.specs.Prelude.{ℕ, ◌-◌, ◌%◌, Bool, true, false, cond, not, List, [], ◌∷◌, length, is_some, ◌==◌, nat_le, nat_lt, slice_index}
+use Rattle.std.specs.Prelude.{ℕ, ◌-◌, ◌%◌, Bool, false, cond, not, List, [], ◌∷◌, length, is_some, ◌==◌, nat_le, nat_lt, slice_index}
 use Rattle.disk.specs.declared.fault.DiskFault.TheVariants.{Dead}
 use Rattle.disk.specs.Tests.{Test, both, either}
 use Rattle.disk.specs.Meaning.{Blocks, block, bytes_or}

@@ -3,7 +3,6 @@ use Rattle.std.specs.Prelude.{ℕ, ◌+◌, ◌-◌, cond, List, [], ◌∷◌, 
 use Rattle.disk.specs.declared.fault.DiskFault.{DiskFault}
 use Rattle.disk.specs.Tests.{Test}
 use Rattle.disk.specs.Meaning.{Block, Blocks, block, refusal, written}
-use Rattle.card.specs.declared.Header.{Header}
 use Rattle.card.specs.declared.Update.{Update}
 use Rattle.card.specs.Layout.{slots, highest, slot, log_block, header_block, start_block, latest}
 use Rattle.model.specs.declared.LogFault.TheVariants.{Dead, Full, Exhausted}

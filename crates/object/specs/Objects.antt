@@ -1,6 +1,6 @@
 -- Objects: where they lie in a block, and how they are taken out of it and laid into it. Bit k of a block is bit k mod 8, from the lowest, of
 -- byte k div 8.
-use Rattle.std.specs.Prelude.{ℕ, ◌+◌, ◌-◌, ◌*◌, ◌/◌, ◌%◌, ◌^◌, Bool, cond, List, [], ◌∷◌, ◌++◌, length, take, drop, ◌==◌, count_ones, nat_le, nat_lt, slice_index, slice_set}
+use Rattle.std.specs.Prelude.{ℕ, ◌+◌, ◌-◌, ◌*◌, ◌/◌, ◌%◌, ◌^◌, Bool, cond, List, [], ◌∷◌, ◌++◌, take, drop, ◌==◌, count_ones, nat_le, nat_lt, slice_index, slice_set}
 use Rattle.disk.specs.Tests.{both, either}
 use Rattle.object.specs.declared.Place.{Place}
 

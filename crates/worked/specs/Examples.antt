@@ -61,7 +61,7 @@ pub record WorkedExamples : Type 0 where
   pub offsets : replies (begins 0 ∷ map (λ o. reads 0 (piece 64 o 1024) (replicate 128 0)) (1024 ∷ 512 ∷ 4096 ∷ [])) ready ≡
       (Ok 0 ∷ Ok 128 ∷ Err (15, 64) ∷ Err (15, 64) ∷ [])
   -- how far end may be from start
-  pub position_tests_lem : map (λ e. first_of (position_tests 10 e)) (72 ∷ 73 ∷ []) ≡ (None ∷ Some Positions ∷ [])
+  pub position_refusals : map (λ e. first_of (position_tests 10 e)) (72 ∷ 73 ∷ []) ≡ (None ∷ Some Positions ∷ [])
   pub positions : map (λ e. reply (opening shut (laid_out 10 e (replicate 62 64) 64)).answer) (72 ∷ 73 ∷ []) ≡ (Ok 72 ∷ Err (9, 0) ∷ [])
   -- the three operations, and five logger steps
   pub three : writes (opener ++ (closer ++ replicate 5 logs)) ready ≡

@@ -1,4 +1,4 @@
-use Rattle.std.proofs.Common.{◌≡◌, ℕ, ◌+◌, ◌-◌, ◌*◌, ◌^◌, ◌<◌, length, get_or, ap, ◌∙◌, arith, rules, below_more}
+use Rattle.std.proofs.Common.{◌≡◌, ◌+◌, ◌-◌, ◌*◌, ◌^◌, ◌<◌, length, get_or, ap, ◌∙◌, arith, rules, below_more}
 use borrow.Rule.Slice.PartMut.{put_mid}
 use Rattle.card.specs.declared.Header.{Header}
 use Rattle.card.specs.Bytes.{to_bytes}

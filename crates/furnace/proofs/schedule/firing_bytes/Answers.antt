@@ -1,4 +1,4 @@
-use Rattle.std.proofs.Common.{◌≡◌, ℕ, length, get_or, sym, ap, ◌∙◌, arith, rules, below_more}
+use Rattle.std.proofs.Common.{get_or, sym, ◌∙◌, arith, rules, below_more}
 use Rattle.std.proofs.lemmas.List.FromFn.{fill_by_all}
 use Rattle.furnace.specs.Settings.{cold, firing_in}
 use Rattle.furnace.proofs.Firings.{firing_here, firing_other}

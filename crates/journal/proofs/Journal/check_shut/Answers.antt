@@ -1,4 +1,4 @@
-use Rattle.std.proofs.Common.{◌≡◌, sym, ◌∙◌}
+use Rattle.std.proofs.Common.{sym, ◌∙◌}
 use Rattle.model.proofs.Calls.{format_open, opening_open}
 use Rattle.model.proofs.Order.{format_order_lem, opening_order}
 use Rattle.journal.specs.View.{view, view_of}

@@ -1,4 +1,4 @@
-use Rattle.std.proofs.Common.{◌≡◌, is_some, Ok, sym, refl, ap, ◌∙◌, subst}
+use Rattle.std.proofs.Common.{is_some, Ok, sym, refl, ap, ◌∙◌, subst}
 use Rattle.std.proofs.lemmas.Result.{err_from_is_err_and}
 use Rattle.journal_log.specs.View.{view as log_view}
 use Rattle.model.proofs.Calls.{opening_err, opening_ok}

@@ -1,6 +1,5 @@
-use Rattle.std.proofs.Common.{◌≡◌, sym, refl, ap, ◌∙◌}
+use Rattle.std.proofs.Common.{sym, ap, ◌∙◌}
 use Rattle.std.proofs.lemmas.Result.{err_from_is_err_and}
-use Rattle.model.specs.declared.Fault.TheVariants.{Object}
 use Rattle.model.specs.Outcomes.{passed}
 use Rattle.journal_log.specs.View.{view}
 use Rattle.operation.specs.Table.{objects}

@@ -1,4 +1,4 @@
-use Rattle.std.proofs.Common.{◌≡◌, [], length, Some, unwrap_or, sym, refl, ap, ◌∙◌, arith, length-set}
+use Rattle.std.proofs.Common.{[], length, Some, unwrap_or, sym, refl, ap, ◌∙◌, arith, length-set}
 use Rattle.disk.specs.Tests.{unless}
 use Rattle.object.specs.Objects.{width}
 use Rattle.model.specs.Outcomes.{value_unless}

@@ -1,4 +1,4 @@
-use Rattle.std.proofs.Common.{◌≡◌, [], length, Some, unwrap_or, sym, ap, ◌∙◌}
+use Rattle.std.proofs.Common.{[], length, Some, unwrap_or, ap, ◌∙◌}
 use Rattle.std.specs.Option.{option_map}
 use Rattle.disk.specs.Tests.{unless}
 use Rattle.disk.proofs.Refusals.{unless_under}

@@ -1,5 +1,4 @@
 use Rattle.std.proofs.lemmas.Result.{err_from_is_err_and}
-use Rattle.disk.specs.Tests.{first_of}
 use Rattle.model.proofs.Tests.{value_ok}
 use Rattle.journal_log.proofs.Opening.{homes_refused, homes_told}
 use Rattle.journal_log.proofs.open.check_homes.Goals as goal

@@ -1,4 +1,4 @@
-use Rattle.std.proofs.Common.{◌≡◌, ap, ◌∙◌, ⊎_elim, arith}
+use Rattle.std.proofs.Common.{ap, ◌∙◌, ⊎_elim, arith}
 use Rattle.card.specs.Layout.{start_on, end_on}
 use Rattle.model.specs.declared.LogFault.TheVariants.{HomeRange}
 use Rattle.model.specs.Log.{range_test}

@@ -1,6 +1,6 @@
-use Rattle.std.proofs.Common.{◌≡◌, ◌+◌, ◌<◌, length, ap, ◌∙◌, arith, length-set}
+use Rattle.std.proofs.Common.{◌+◌, ◌<◌, length, ap, ◌∙◌, arith, length-set}
 use Rattle.card.specs.declared.Update.{Update}
-use Rattle.card.specs.Layout.{slot, slots, start_on, end_on}
+use Rattle.card.specs.Layout.{slot, slots}
 use Rattle.journal_log.specs.declared.open.Head.{Head}
 use Rattle.journal_log.specs.Ring.{row_at}
 use Rattle.journal_log.proofs.Opening.{head_home, row_read, row_granted, rows_more}

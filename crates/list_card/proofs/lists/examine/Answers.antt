@@ -1,4 +1,4 @@
-use Rattle.std.proofs.Common.{◌≡◌, length, sym, ap, ◌∙◌}
+use Rattle.std.proofs.Common.{length, ap, ◌∙◌}
 use Rattle.model.specs.Journal.{opening}
 use Rattle.list_card.specs.Listing.{live_told}
 use Rattle.list_card.proofs.Homes.{found_listed}

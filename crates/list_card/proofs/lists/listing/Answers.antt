@@ -1,4 +1,4 @@
-use Rattle.std.proofs.Common.{◌≡◌, sym, ap, ◌∙◌}
+use Rattle.std.proofs.Common.{ap, ◌∙◌}
 use Rattle.disk.specs.Plain.{plain_blocks, bytes_of}
 use Rattle.list_card.specs.Listing.{listed}
 use Rattle.list_card.proofs.lists.listing.Goals as goal

@@ -1,6 +1,4 @@
-use Rattle.std.proofs.Common.{◌≡◌, ℕ, ◌+◌, ◌-◌, ◌<◌, List, length, get_or, take, set, unwrap_or, sym, ap, ◌∙◌, arith, length-set}
-use Rattle.journal_log.specs.Ring.{row_at}
-use Rattle.list_card.specs.Listing.{Lives, row_homes}
+use Rattle.std.proofs.Common.{ℕ, ◌-◌, List, get_or, take, set, unwrap_or, ap, ◌∙◌, arith, length-set}
 use Rattle.list_card.proofs.Homes.{home_live, homes_more, homes_all}
 use Rattle.list_card.proofs.lists.live_homes.Goals as goal
 

@@ -1,4 +1,4 @@
-use Rattle.std.proofs.Common.{◌≡◌, ℕ, sym, ap, ◌∙◌, arith, rules, below_more}
+use Rattle.std.proofs.Common.{sym, ap, ◌∙◌, arith, rules, below_more}
 use Rattle.std.proofs.lemmas.List.FromFn.{fill_by_all}
 use Rattle.furnace.specs.Words.{word_in}
 use Rattle.furnace.proofs.melt.Melt.encode.Goals as goal

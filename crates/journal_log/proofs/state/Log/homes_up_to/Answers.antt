@@ -1,4 +1,4 @@
-use Rattle.std.proofs.Common.{◌≡◌, ℕ, ◌-◌, set, sym, refl, ap, ◌∙◌, arith}
+use Rattle.std.proofs.Common.{◌≡◌, ℕ, ◌-◌, set, sym, ap, ◌∙◌, arith}
 use Rattle.card.specs.declared.Update.{Update}
 use Rattle.card.specs.Layout.{slot}
 use Rattle.model.specs.Steps.{with_homes}

@@ -1,4 +1,4 @@
-use Rattle.std.proofs.Common.{◌≡◌, ℕ, List, None, sym, refl, ap, arith}
+use Rattle.std.proofs.Common.{ℕ, List, None, ap, arith}
 use Rattle.std.proofs.lemmas.Result.{err_from_is_err_and}
 use Rattle.card.specs.declared.Update.{Update}
 use Rattle.model.specs.Log as model

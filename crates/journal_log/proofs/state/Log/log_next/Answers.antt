@@ -1,4 +1,4 @@
-use Rattle.std.proofs.Common.{◌≡◌, sym, refl, ap}
+use Rattle.std.proofs.Common.{refl}
 use Rattle.std.proofs.lemmas.Result.{err_from_is_err_and}
 use Rattle.journal_log.proofs.Stepping.{step_refused, step_granted, next_does}
 use Rattle.journal_log.proofs.state.Log.log_next.Goals as goal

@@ -1,11 +1,10 @@
-use Rattle.std.proofs.Common.{◌≡◌, Err, ap, ◌∙◌, arith}
+use Rattle.std.proofs.Common.{ap, arith}
 use Rattle.std.proofs.lemmas.Result.{err_from_is_err_and}
 use Rattle.disk.specs.Tests.{first_of}
-use Rattle.model.specs.Log.{card_tests, head_tests}
-use Rattle.model.proofs.Card.{card_ready}
+use Rattle.model.specs.Log.{head_tests}
 use Rattle.model.proofs.Tests.{value_ok}
 use Rattle.journal_log.specs.declared.open.Head.{Head}
-use Rattle.journal_log.specs.View.{viewed, head_on}
+use Rattle.journal_log.specs.View.{head_on}
 use Rattle.journal_log.proofs.Opening.{open_refused_0, open_refused_1, open_refused_2, opened, near}
 use Rattle.journal_log.proofs.state.Log.open.Goals as goal
 
