@@ -1,6 +1,6 @@
 .PHONY: test run refused
 
-# The gate: every crate proved from nothing, every must-fail edit refused, every program and test run.
+# The gate: every crate proved, every must-fail edit refused, every program and test run.
 test:
 	@rt ci
 

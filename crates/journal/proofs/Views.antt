@@ -6,7 +6,7 @@ use Rattle.model.specs.declared.Fault.TheVariants.{Shut}
 use Rattle.model.specs.Outcomes.{refused_by, within}
 use Rattle.model.specs.Calls.{Call, buffer_of, called, outcome}
 use Rattle.journal.specs.declared.opened.Open.{Open}
-use Rattle.journal.specs.View.{view_of}
+use Rattle.journal.specs.View.{open_view}
 
 pub is_some_mapped : {X Y : Type 0} (f : X → Y) (o : Option X) → is_some (option_map f o) ≡ is_some o
 is_some_mapped f None = refl
@@ -22,8 +22,8 @@ is_some_not (Some x) e = let z : ◌≡◌ {A = ℕ} 0 1 = cc in absurd (omega a
 
 -- a call of a shut journal, and of an open one
 module _ (c : Call) (s : Option Open) (d : Blocks) where
-  pub while_shut : None ≡ s → outcome c (option_map view_of s) d ≡ refused_by Shut (buffer_of c) (option_map view_of s) d
-  while_shut e = subst (λ x. outcome c (option_map view_of x) d ≡ refused_by Shut (buffer_of c) (option_map view_of x) d) e refl
+  pub while_shut : None ≡ s → outcome c (option_map open_view s) d ≡ refused_by Shut (buffer_of c) (option_map open_view s) d
+  while_shut e = subst (λ x. outcome c (option_map open_view x) d ≡ refused_by Shut (buffer_of c) (option_map open_view x) d) e refl
 
-  pub while_open : (o : Open) → Some o ≡ s → outcome c (option_map view_of s) d ≡ within Some (called c (view_of o) d)
-  while_open o e = ap (λ x. outcome c (option_map view_of x) d) (sym e)
+  pub while_open : (o : Open) → Some o ≡ s → outcome c (option_map open_view s) d ≡ within Some (called c (open_view o) d)
+  while_open o e = ap (λ x. outcome c (option_map open_view x) d) (sym e)

@@ -11,7 +11,7 @@ use Rattle.journal_log.specs.View.{view as log_view}
 use Rattle.journal_log.specs.Steps.{block_told}
 use Rattle.model.specs.declared.Fault.{Fault}
 use Rattle.model.specs.Journal as model
-use Rattle.model.specs.Journal.{View, shut, format, opening}
+use Rattle.model.specs.Journal.{View, shut, opened_with, format, opening}
 use Rattle.model.specs.Outcomes.{refused_by}
 use Rattle.journal.specs.declared.Journal.{Journal}
 use Rattle.journal.specs.declared.opened.Open.{Open}
@@ -22,16 +22,21 @@ use Rattle.journal.specs.declared.ticket.Refused.{Refused}
 abbrev pub tables_of : List (Option Table) → List (Option (List Held))
 tables_of ts = map (option_map objects) ts
 
+-- open with its log, and no operation open
+abbrev pub view_of : Log → model.Open
+view_of l = opened_with (log_view l)
+
 -- open, with this log and these operations
 abbrev pub opened : Log → List (Option Table) → model.Open
-opened l ts = record { log = log_view l; operations = tables_of ts }
+opened l ts = record (view_of l) { operations = tables_of ts }
 
-abbrev pub view_of : Open → model.Open
-view_of o = opened o.log o.operations
+-- what the memory of an open journal stands for
+abbrev pub open_view : Open → model.Open
+open_view o = opened o.log o.operations
 
 -- open, or shut
 abbrev pub view : {D : Type 0} → Journal D → View
-view j = option_map view_of j.state
+view j = option_map open_view j.state
 
 -- the answer of a call's first test: a shut journal passes, an open one has both calls refused
 abbrev pub WhileOpen : View → Result (Unit {0}) Fault → Type 0

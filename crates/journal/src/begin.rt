@@ -4,7 +4,7 @@ ghost use Rattle.std.specs.Option.{option_map};
 ghost use Rattle.operation.specs.Table.{objects};
 ghost use Rattle.disk.specs.Meaning.{Blocks};
 ghost use Rattle.model.specs.Calls.{outcome, called, operation, with_operation, begins, gives_up};
-ghost use Rattle.journal.specs.View.{view, view_of, begun_as};
+ghost use Rattle.journal.specs.View.{view, open_view, begun_as};
 
 use crate::Journal;
 use crate::opened::{OPERATIONS, Open};
@@ -43,7 +43,7 @@ impl<D: Disk> Journal<D> {
 impl Open {
     // Whether the operation with this number is open.
     pub(crate) fn is_begun(&self, number: u32) -> bool
-        ensures value { result ≡ is_some (operation (view_of self.now) number) }
+        ensures value { result ≡ is_some (operation (open_view self.now) number) }
         ensures small { result ≡ true → number < 4 }
     {
         (number as usize) < OPERATIONS && self.operations[number as usize].is_some()
@@ -52,7 +52,7 @@ impl Open {
     // The operation with this number is open, with nothing held, or not open.
     pub(crate) fn set_operation(&mut self, number: u32, table: Option<Table>)
         requires { number < 4 }
-        ensures { view_of self.new ≡ with_operation (view_of self.old) number (option_map objects table) }
+        ensures { open_view self.new ≡ with_operation (open_view self.old) number (option_map objects table) }
     {
         self.operations[number as usize] = table;
     }
@@ -60,14 +60,14 @@ impl Open {
     // The operation is over.
     pub(crate) fn close(&mut self, number: u32)
         requires { number < 4 }
-        ensures { view_of self.new ≡ with_operation (view_of self.old) number None }
+        ensures { open_view self.new ≡ with_operation (open_view self.old) number None }
     {
         self.set_operation(number, None);
     }
 
     fn begin(&mut self, number: u32) -> Result<Ticket, Fault>
-        ensures answer { (d : Blocks) → begun_as result ≡ (called (begins number) (view_of self.old) d).answer }
-        ensures state { (d : Blocks) → view_of self.new ≡ (called (begins number) (view_of self.old) d).state }
+        ensures answer { (d : Blocks) → begun_as result ≡ (called (begins number) (open_view self.old) d).answer }
+        ensures state { (d : Blocks) → open_view self.new ≡ (called (begins number) (open_view self.old) d).state }
     {
         if number as usize >= OPERATIONS || self.is_begun(number) {
             return Err(Fault::Number);
@@ -77,8 +77,8 @@ impl Open {
     }
 
     fn give_up(&mut self, number: u32) -> Result<u64, Fault>
-        ensures answer { (d : Blocks) → result ≡ (called (gives_up number) (view_of self.old) d).answer }
-        ensures state { (d : Blocks) → view_of self.new ≡ (called (gives_up number) (view_of self.old) d).state }
+        ensures answer { (d : Blocks) → result ≡ (called (gives_up number) (open_view self.old) d).answer }
+        ensures state { (d : Blocks) → open_view self.new ≡ (called (gives_up number) (open_view self.old) d).state }
     {
         if !self.is_begun(number) {
             return Err(Fault::Ticket);

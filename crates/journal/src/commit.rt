@@ -9,7 +9,7 @@ ghost use Rattle.journal_log.specs.View.{view as log_view};
 ghost use Rattle.journal_log.specs.Updates.{update_for};
 ghost use Rattle.operation.specs.Table.{objects, as_fault};
 ghost use Rattle.journal.specs.Commit.{staged_in, staged_as, updates_of};
-ghost use Rattle.journal.specs.View.{view, view_of, committed_as, HandsBack};
+ghost use Rattle.journal.specs.View.{view, open_view, committed_as, HandsBack};
 
 use crate::Journal;
 use crate::opened::{OPERATIONS, Open};
@@ -44,8 +44,8 @@ impl<D: Disk> Journal<D> {
 
 // A commit, where the journal is open.
 fn commit_in<D: Disk>(state: &mut Option<Open>, disk: &D, number: u32) -> Result<u64, Fault>
-    ensures answer { result ≡ (outcome (commits number) (option_map view_of state.old) (D.Disk.blocks disk.now)).answer }
-    ensures state { option_map view_of state.new ≡ (outcome (commits number) (option_map view_of state.old) (D.Disk.blocks disk.now)).state }
+    ensures answer { result ≡ (outcome (commits number) (option_map open_view state.old) (D.Disk.blocks disk.now)).answer }
+    ensures state { option_map open_view state.new ≡ (outcome (commits number) (option_map open_view state.old) (D.Disk.blocks disk.now)).state }
 {
     let Some(open) = state.as_mut() else {
         return Err(Fault::Shut);
@@ -56,7 +56,7 @@ fn commit_in<D: Disk>(state: &mut Option<Open>, disk: &D, number: u32) -> Result
 impl Open {
     // What the operation with this number holds, if it is open.
     fn table(&self, number: u32) -> Option<&Table>
-        ensures { option_map (λ t. objects t.now) result ≡ operation (view_of self.now) number }
+        ensures { option_map (λ t. objects t.now) result ≡ operation (open_view self.now) number }
     {
         if number as usize >= OPERATIONS {
             return None;
@@ -66,7 +66,7 @@ impl Open {
 
     // Tests all that a commit tests, and makes its updates ready. Nothing is changed yet.
     fn prepare<D: Disk>(&self, disk: &D, number: u32) -> Result<Staged, Fault>
-        ensures { staged_as result ≡ value_unless (first_of (tests_of (commits number) (view_of self.now) (D.Disk.blocks disk.now))) (updates_of (view_of self.now) (D.Disk.blocks disk.now) number) }
+        ensures { staged_as result ≡ value_unless (first_of (tests_of (commits number) (open_view self.now) (D.Disk.blocks disk.now))) (updates_of (open_view self.now) (D.Disk.blocks disk.now) number) }
     {
         let Some(table) = self.table(number) else {
             return Err(Fault::Ticket);
@@ -79,8 +79,8 @@ impl Open {
     }
 
     fn commit<D: Disk>(&mut self, disk: &D, number: u32) -> Result<u64, Fault>
-        ensures answer { result ≡ (called (commits number) (view_of self.old) (D.Disk.blocks disk.now)).answer }
-        ensures state { view_of self.new ≡ (called (commits number) (view_of self.old) (D.Disk.blocks disk.now)).state }
+        ensures answer { result ≡ (called (commits number) (open_view self.old) (D.Disk.blocks disk.now)).answer }
+        ensures state { open_view self.new ≡ (called (commits number) (open_view self.old) (D.Disk.blocks disk.now)).state }
     {
         let staged = self.prepare(disk, number)?;
         self.log.add_all(staged.as_slice());

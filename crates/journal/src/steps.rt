@@ -3,7 +3,7 @@ ghost use Rattle.std.specs.Prelude.{◌≡◌, ℕ};
 ghost use Rattle.std.specs.Option.{option_map};
 ghost use Rattle.model.specs.Outcomes.{writes_after};
 ghost use Rattle.model.specs.Calls.{outcome, flushes, logs, installs};
-ghost use Rattle.journal.specs.View.{view, view_of, stepped_to, stepped_on};
+ghost use Rattle.journal.specs.View.{view, open_view, stepped_to, stepped_on};
 
 use crate::Journal;
 use crate::opened::Open;
@@ -49,11 +49,11 @@ impl<D: Disk> Journal<D> {
 
 // A step of the logger, where the journal is open.
 fn step_logger<D: Disk>(state: &mut Option<Open>, disk: &mut D) -> Result<Step, Fault>
-    ensures answer { stepped_to result ≡ (outcome logs (option_map view_of state.old) (D.Disk.blocks disk.old)).answer }
-    ensures wrote { stepped_on result ≡ (outcome logs (option_map view_of state.old) (D.Disk.blocks disk.old)).wrote }
-    ensures state { option_map view_of state.new ≡ (outcome logs (option_map view_of state.old) (D.Disk.blocks disk.old)).state }
-    ensures blocks { D.Disk.blocks disk.new ≡ (outcome logs (option_map view_of state.old) (D.Disk.blocks disk.old)).disk }
-    ensures writes { D.Disk.writes disk.new ≡ writes_after (outcome logs (option_map view_of state.old) (D.Disk.blocks disk.old)) (D.Disk.writes disk.old) }
+    ensures answer { stepped_to result ≡ (outcome logs (option_map open_view state.old) (D.Disk.blocks disk.old)).answer }
+    ensures wrote { stepped_on result ≡ (outcome logs (option_map open_view state.old) (D.Disk.blocks disk.old)).wrote }
+    ensures state { option_map open_view state.new ≡ (outcome logs (option_map open_view state.old) (D.Disk.blocks disk.old)).state }
+    ensures blocks { D.Disk.blocks disk.new ≡ (outcome logs (option_map open_view state.old) (D.Disk.blocks disk.old)).disk }
+    ensures writes { D.Disk.writes disk.new ≡ writes_after (outcome logs (option_map open_view state.old) (D.Disk.blocks disk.old)) (D.Disk.writes disk.old) }
 {
     let Some(open) = state.as_mut() else {
         return Err(Fault::Shut);
@@ -64,11 +64,11 @@ fn step_logger<D: Disk>(state: &mut Option<Open>, disk: &mut D) -> Result<Step, 
 
 // A step of the installer, where the journal is open.
 fn step_installer<D: Disk>(state: &mut Option<Open>, disk: &mut D) -> Result<Step, Fault>
-    ensures answer { stepped_to result ≡ (outcome installs (option_map view_of state.old) (D.Disk.blocks disk.old)).answer }
-    ensures wrote { stepped_on result ≡ (outcome installs (option_map view_of state.old) (D.Disk.blocks disk.old)).wrote }
-    ensures state { option_map view_of state.new ≡ (outcome installs (option_map view_of state.old) (D.Disk.blocks disk.old)).state }
-    ensures blocks { D.Disk.blocks disk.new ≡ (outcome installs (option_map view_of state.old) (D.Disk.blocks disk.old)).disk }
-    ensures writes { D.Disk.writes disk.new ≡ writes_after (outcome installs (option_map view_of state.old) (D.Disk.blocks disk.old)) (D.Disk.writes disk.old) }
+    ensures answer { stepped_to result ≡ (outcome installs (option_map open_view state.old) (D.Disk.blocks disk.old)).answer }
+    ensures wrote { stepped_on result ≡ (outcome installs (option_map open_view state.old) (D.Disk.blocks disk.old)).wrote }
+    ensures state { option_map open_view state.new ≡ (outcome installs (option_map open_view state.old) (D.Disk.blocks disk.old)).state }
+    ensures blocks { D.Disk.blocks disk.new ≡ (outcome installs (option_map open_view state.old) (D.Disk.blocks disk.old)).disk }
+    ensures writes { D.Disk.writes disk.new ≡ writes_after (outcome installs (option_map open_view state.old) (D.Disk.blocks disk.old)) (D.Disk.writes disk.old) }
 {
     let Some(open) = state.as_mut() else {
         return Err(Fault::Shut);

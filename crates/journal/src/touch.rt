@@ -8,7 +8,7 @@ ghost use Rattle.model.specs.Outcomes.{value_unless};
 ghost use Rattle.model.specs.Calls.{outcome, called, reads, overwrites};
 ghost use Rattle.journal_log.specs.View.{view as log_view};
 ghost use Rattle.operation.specs.Table.{objects};
-ghost use Rattle.journal.specs.View.{view, view_of, opened};
+ghost use Rattle.journal.specs.View.{view, open_view, opened};
 ghost use Rattle.journal.specs.Touch.{seen_by, read_into, read_by, overwritten_by};
 
 use crate::Journal;
@@ -103,9 +103,9 @@ fn read_open<D: Disk>(
     place: Place,
     buf: &mut [u8],
 ) -> Result<usize, Fault>
-    ensures answer { result ≡ (outcome (reads number place buf.old) (option_map view_of state.old) (D.Disk.blocks disk.now)).answer }
-    ensures buffer { buf.new ≡ (outcome (reads number place buf.old) (option_map view_of state.old) (D.Disk.blocks disk.now)).buffer }
-    ensures state { option_map view_of state.new ≡ (outcome (reads number place buf.old) (option_map view_of state.old) (D.Disk.blocks disk.now)).state }
+    ensures answer { result ≡ (outcome (reads number place buf.old) (option_map open_view state.old) (D.Disk.blocks disk.now)).answer }
+    ensures buffer { buf.new ≡ (outcome (reads number place buf.old) (option_map open_view state.old) (D.Disk.blocks disk.now)).buffer }
+    ensures state { option_map open_view state.new ≡ (outcome (reads number place buf.old) (option_map open_view state.old) (D.Disk.blocks disk.now)).state }
 {
     let Some(open) = state.as_mut() else {
         return Err(Fault::Shut);
@@ -121,8 +121,8 @@ fn overwrite_open<D: Disk>(
     place: Place,
     bytes: &[u8],
 ) -> Result<usize, Fault>
-    ensures answer { result ≡ (outcome (overwrites number place bytes.now) (option_map view_of state.old) (D.Disk.blocks disk.now)).answer }
-    ensures state { option_map view_of state.new ≡ (outcome (overwrites number place bytes.now) (option_map view_of state.old) (D.Disk.blocks disk.now)).state }
+    ensures answer { result ≡ (outcome (overwrites number place bytes.now) (option_map open_view state.old) (D.Disk.blocks disk.now)).answer }
+    ensures state { option_map open_view state.new ≡ (outcome (overwrites number place bytes.now) (option_map open_view state.old) (D.Disk.blocks disk.now)).state }
 {
     let Some(open) = state.as_mut() else {
         return Err(Fault::Shut);

@@ -12,7 +12,7 @@ use Rattle.journal_log.specs.Ring.{absent, row_at, rows_from}
 use Rattle.journal_log.specs.View.{home_of as home_at}
 use Rattle.journal_log.specs.View.{view as log_view}
 use Rattle.journal.specs.declared.opened.Open.{Open}
-use Rattle.journal.specs.View.{view_of}
+use Rattle.journal.specs.View.{open_view}
 use Rattle.model.specs.Log.{Log, log_on}
 use Rattle.model.specs.Journal.{View, opened_with, opening}
 use Rattle.model.proofs.Calls.{opening_granted}
@@ -55,11 +55,11 @@ log_or l None = l
 log_or l (Some j) = j.log
 
 -- the log of an open journal, as it is seen
-log_seen : (l : Memory) (e : Log) (s : Option Open) → Some l ≡ option_map (λ o. o.log) s → log_view l ≡ log_or e (option_map view_of s)
+log_seen : (l : Memory) (e : Log) (s : Option Open) → Some l ≡ option_map (λ o. o.log) s → log_view l ≡ log_or e (option_map open_view s)
 log_seen l e None is = cc
 log_seen l e (Some o) is = cc
 
-module _ (d : Blocks) (e : ℕ) (ok : Ok e ≡ (opening None d).answer) (s : Option Open) (seen : option_map view_of s ≡ (opening None d).state) where
+module _ (d : Blocks) (e : ℕ) (ok : Ok e ≡ (opening None d).answer) (s : Option Open) (seen : option_map open_view s ≡ (opening None d).state) where
   pub found_listed : (n : ℕ) (lives : Lives) (l : Memory) → n ≡ length d → Some l ≡ option_map (λ o. o.log) s → lives ≡ (l.start, l.end, row_homes l) →
       record { blocks = n; refusal = 0; place = 0; live = Some lives } ≡ listed d
   found_listed n lives l at_n in-s at-l =
