@@ -1,3 +1,4 @@
 pub mod Slots
 pub mod Bytes
 pub mod Headers
+pub mod Made

@@ -1,11 +1,12 @@
 // The blocks of the card: where things lie, and the bytes of the two blocks that hold positions.
 #![tactic(auto)]
 
-ghost use Rattle.std.specs.Prelude.{◌≡◌, ℕ, ◌^◌, ◌<◌, map, length, slice_index};
-ghost use Rattle.card.specs.Bytes.{all_zero, field};
+ghost use Rattle.std.specs.Prelude.{◌≡◌, ℕ, ◌^◌, ◌+◌, ◌<◌, ◌≤◌, map, length, take, drop, slice_index};
+ghost use Rattle.card.specs.Bytes.{all_zero, field, to_bytes, from_bytes};
 ghost use Rattle.card.specs.Layout.{slots, slot as slot_of, log_block, homes_in, header_block, start_block, header_in, start_in, home_in, SlotsDiffer};
 
 use disk::BLOCK;
+use std::array;
 
 // How many slots the log has.
 pub const SLOTS: usize = 62;
@@ -29,7 +30,7 @@ pub struct Header {
 }
 
 // A home's new bytes, on the way there.
-#[derive(Clone, Copy)]
+#[derive(Clone, Copy, Default)]
 pub struct Update {
     pub home: u32,
     pub bytes: [u8; BLOCK],
@@ -62,12 +63,25 @@ pub fn log_block(position: u64) -> u32
 pub fn all_zero(bytes: &[u8]) -> bool
     ensures { result ≡ all_zero bytes.now }
 {
-    for b in bytes {
-        if *b != 0 {
-            return false;
-        }
-    }
-    true
+    bytes.iter().all(|byte| *byte == 0)
+}
+
+// The bytes of a block from byte `at` on, as many as are asked for.
+fn bytes_at<const N: usize>(block: &[u8; BLOCK], at: usize) -> [u8; N]
+    requires { at + N ≤ 512 }
+    ensures { result ≡ take N (drop at block.now) }
+{
+    let mut bytes = [0; N];
+    bytes.copy_from_slice(&block[at..at + N]);
+    bytes
+}
+
+// The bytes of a home number.
+fn home_bytes(home: u32) -> [u8; 4]
+    ensures bytes { result ≡ to_bytes 4 home }
+    ensures decodes { from_bytes result ≡ home }
+{
+    home.to_le_bytes()
 }
 
 // The number in the four bytes from byte `at` on.
@@ -75,16 +89,23 @@ fn u32_at(block: &[u8; BLOCK], at: usize) -> u32
     requires { at < 509 }
     ensures { result ≡ field at 4 block.now }
 {
-    u32::from_le_bytes([block[at], block[at + 1], block[at + 2], block[at + 3]])
+    u32::from_le_bytes(bytes_at(block, at))
 }
 
 // The number in the first eight bytes.
 fn first_u64(block: &[u8; BLOCK]) -> u64
     ensures { result ≡ field 0 8 block.now }
 {
-    u64::from_le_bytes([
-        block[0], block[1], block[2], block[3], block[4], block[5], block[6], block[7],
-    ])
+    u64::from_le_bytes(bytes_at(block, 0))
+}
+
+// A block that begins with this number, and is zero from there on.
+fn beginning_with(number: u64) -> [u8; BLOCK]
+    ensures { result ≡ start_block number }
+{
+    let mut block = [0; BLOCK];
+    block[..8].copy_from_slice(&number.to_le_bytes());
+    block
 }
 
 // The bytes of block 0 with this end and these home numbers.
@@ -92,24 +113,9 @@ fn header_bytes(end: u64, homes: &[u32; SLOTS]) -> [u8; BLOCK]
     ensures bytes { result ≡ header_block (record { end = end; homes = homes.now }) }
     ensures decodes { header_in result ≡ record { end = end; homes = homes.now } }
 {
-    let mut block = [0u8; BLOCK];
-    block[0..8].copy_from_slice(&end.to_le_bytes());
-    for s in 0..SLOTS {
-        let at = 8 + 4 * s;
-        block[at..at + 4].copy_from_slice(&homes[s].to_le_bytes());
-    }
+    let mut block = beginning_with(end);
+    block[8..HEADER_END].copy_from_slice(homes.map(home_bytes).as_flattened());
     block
-}
-
-// The home numbers in block 0.
-fn homes_in(block: &[u8; BLOCK]) -> [u32; SLOTS]
-    ensures { result ≡ homes_in block.now }
-{
-    let mut homes = [0u32; SLOTS];
-    for s in 0..SLOTS {
-        homes[s] = u32_at(block, 8 + 4 * s);
-    }
-    homes
 }
 
 impl Header {
@@ -125,9 +131,10 @@ impl Header {
     pub fn decode(block: &[u8; BLOCK]) -> Header
         ensures { result ≡ header_in block.now }
     {
-        let end = first_u64(block);
-        let homes = homes_in(block);
-        Header { end, homes }
+        Header {
+            end: first_u64(block),
+            homes: array::from_fn(|s| u32_at(block, 8 + 4 * s)),
+        }
     }
 
     // The home number of a position's slot.
@@ -143,9 +150,7 @@ pub fn encode_start(start: u64) -> [u8; BLOCK]
     ensures bytes { result ≡ start_block start }
     ensures decodes { start_in result ≡ start }
 {
-    let mut block = [0u8; BLOCK];
-    block[0..8].copy_from_slice(&start.to_le_bytes());
-    block
+    beginning_with(start)
 }
 
 // The start position that the bytes of block 1 say.

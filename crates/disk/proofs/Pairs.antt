@@ -1,9 +1,9 @@
 -- The blocks of a pair.
-use Rattle.std.proofs.Common.{◌≡◌, ℕ, ◌+◌, ◌-◌, ◌<◌, ◌≤◌, min, List, ◌++◌, length, take, set, Some, None, sym, refl, ap, ◌∙◌, ⊎_elim, arith, length-append, length-take}
+use Rattle.std.proofs.Common.{◌≡◌, ℕ, ◌+◌, ◌-◌, ◌<◌, ◌≤◌, min, List, ◌++◌, length, take, set, Some, None, Ok, sym, refl, ap, ◌∙◌, ⊎_elim, arith, length-append, length-take}
 use lib.Seq.{take-set-lt}
 use Rattle.std.proofs.lemmas.List.{get_or-take, get_or_append_left, get_or-append_right, set-append_left, set-append_right}
 use Rattle.std.proofs.lemmas.Bool.{cases_lt, cond-true, cond-false, lt-ltb, le-ltb}
-use Rattle.disk.specs.declared.pair.Place.TheVariants.{First, Second}
+use Rattle.disk.specs.declared.pair.Side.TheVariants.{First, Second}
 use Rattle.disk.specs.Tests.{unless}
 use Rattle.disk.specs.Meaning.{Blocks, refusal, Whole}
 use Rattle.disk.specs.Pair.{pair_blocks, pair_writes, PairFound}
@@ -45,7 +45,7 @@ whole_pair d e first second = whole_by (pair_blocks d e) (rw length_pair (omega 
 
 -- what a call on a block of either disk does to both
 module _ (d e : Blocks) (m w b : ℕ) (buf : List ℕ) (h : b < length (pair_blocks d e)) where
-  pub found_first : b < length d → PairFound d e m w b buf (First b)
+  pub found_first : b < length d → PairFound d e m w b buf (Ok (First b))
   found_first lt =
       let k = first_shows d e b h lt in
       let t = lt-ltb b (length d) lt in (
@@ -58,7 +58,7 @@ module _ (d e : Blocks) (m w b : ℕ) (buf : List ℕ) (h : b < length (pair_blo
         },
       )
 
-  pub found_second : (split : ℕ) → length d ≡ split → split ≤ b → PairFound d e m w b buf (Second (b - split))
+  pub found_second : (split : ℕ) → length d ≡ split → split ≤ b → PairFound d e m w b buf (Ok (Second (b - split)))
   found_second split l ge =
       let k = second_shows d e b h split l ge in
       let t = le-ltb b (length d) (omega arith) in (

@@ -2,6 +2,7 @@ pub mod Tests
 pub mod Faults
 pub mod Meaning
 pub mod Runs
+pub mod Cards
 pub mod Plain
 pub mod Marked
 pub mod Above

@@ -1,9 +1,9 @@
 -- The pair: the blocks of a first disk and then those of a second, no more than a disk may have.
-use Rattle.std.specs.Prelude.{◌≡◌, ℕ, ◌+◌, ◌-◌, ◌%◌, ◌^◌, cond, List, ◌++◌, length, take, Some, nat_lt, slice_set}
-use Rattle.disk.specs.declared.fault.DiskFault.TheVariants.{Beyond}
+use Rattle.std.specs.Prelude.{◌≡◌, ℕ, ◌+◌, ◌-◌, ◌%◌, ◌^◌, cond, List, ◌++◌, length, take, Some, Ok, Err, Result, nat_lt, slice_set}
+use Rattle.disk.specs.declared.fault.DiskFault.{DiskFault}
 use Rattle.disk.specs.declared.pair.Pair.{Pair}
-use Rattle.disk.specs.declared.pair.Place.{Place}
-use Rattle.disk.specs.declared.pair.Place.TheVariants.{First, Second, Neither}
+use Rattle.disk.specs.declared.pair.Side.{Side}
+use Rattle.disk.specs.declared.pair.Side.TheVariants.{First, Second}
 use Rattle.disk.specs.Tests.{unless}
 use Rattle.disk.specs.Meaning.{Blocks, most_blocks, refusal, written, one_more, counted}
 use Rattle.disk.specs.Above.{CarriedDown}
@@ -35,8 +35,8 @@ pub record PairSides (d e : Blocks) (m w b : ℕ) (bs : List ℕ) (d' e' : Block
   pub first_writes : m' ≡ on_first d e b (length bs) (one_more m) m
   pub second_writes : w' ≡ on_second d e b (length bs) (one_more w) w
 
--- where the pair's block b lies, for a buffer that holds these bytes
-abbrev pub PairFound : Blocks → Blocks → ℕ → ℕ → ℕ → List ℕ → Place → Type 0
-PairFound d e m w b buf (First a) = CarriedDown (λ x. pair_blocks x e) (λ x. pair_writes x w) d m a b buf × PairSides d e m w b buf (written d a buf) e (counted d a (length buf) m) w
-PairFound d e m w b buf (Second a) = CarriedDown (pair_blocks d) (pair_writes m) e w a b buf × PairSides d e m w b buf d (written e a buf) m (counted e a (length buf) w)
-PairFound d e m w b buf Neither = refusal (pair_blocks d e) b (length buf) ≡ Some (Beyond b)
+-- where the pair's block b lies, for a buffer that holds these bytes, or why the pair refuses it
+abbrev pub PairFound : Blocks → Blocks → ℕ → ℕ → ℕ → List ℕ → Result Side DiskFault → Type 0
+PairFound d e m w b buf (Ok (First a)) = CarriedDown (λ x. pair_blocks x e) (λ x. pair_writes x w) d m a b buf × PairSides d e m w b buf (written d a buf) e (counted d a (length buf) m) w
+PairFound d e m w b buf (Ok (Second a)) = CarriedDown (pair_blocks d) (pair_writes m) e w a b buf × PairSides d e m w b buf d (written e a buf) m (counted e a (length buf) w)
+PairFound d e m w b buf (Err f) = refusal (pair_blocks d e) b (length buf) ≡ Some f

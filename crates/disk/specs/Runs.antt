@@ -1,9 +1,9 @@
 -- Disks that lie in a run of bytes, which is cut into cells of one width, a block to a cell.
-use Rattle.std.specs.Prelude.{◌≡◌, ℕ, ◌+◌, ◌*◌, ◌/◌, ◌≤◌, min, List, ◌++◌, map, length, take, drop, Some, None, Ok, Err, Result}
+use Rattle.std.specs.Prelude.{◌≡◌, ℕ, ◌+◌, ◌*◌, ◌/◌, ◌≤◌, true, min, List, ◌++◌, map, length, take, drop, Some, None, Ok, Err, Result}
 use Rattle.std.specs.List.{range_with_len}
 use Rattle.disk.specs.declared.fault.DiskFault.{DiskFault}
 use Rattle.disk.specs.Tests.{unless}
-use Rattle.disk.specs.Meaning.{Block, Blocks, block_size, most_blocks, refusal, filled, written}
+use Rattle.disk.specs.Meaning.{Block, Blocks, block_size, most_blocks, is_live, refusal, filled, written}
 
 -- how many cells of w bytes lie in n bytes, no more than a disk may have blocks
 abbrev pub fitting : ℕ → ℕ → ℕ
@@ -24,6 +24,13 @@ overlaid bs at new = take at bs ++ (new ++ drop (at + length new) bs)
 -- the bytes after a write of `new` to block b, granted or refused: the new ones at the start of its cell, and all others as they were
 abbrev pub cell_written : ℕ → (List ℕ → Block) → List ℕ → ℕ → List ℕ → List ℕ
 cell_written w told bs b new = unless (refusal (cell_blocks w told bs) b (length new)) (overlaid bs (w * b) new) bs
+
+-- what makes a layout of cells of w bytes, where `told` reads a block off its cell: a live cell begins with its block's bytes, and stays live
+-- when others are laid over these
+pub record Laid (w : ℕ) (told : List ℕ → Block) : Type 0 where
+  pub room : block_size ≤ w
+  pub shows : (c : List ℕ) → length c ≡ w → is_live (told c) ≡ true → told c ≡ Some (take block_size c)
+  pub stays : (c new : List ℕ) → length c ≡ w → length new ≡ block_size → is_live (told c) ≡ true → told (new ++ drop (length new) c) ≡ Some new
 
 -- block b, live, lies from `at` on, and may be read into these bytes or written from them: what each then does
 pub record LiveCell (w : ℕ) (told : List ℕ → Block) (bs : List ℕ) (b : ℕ) (buf : List ℕ) (at : ℕ) : Type 0 where

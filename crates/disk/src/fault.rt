@@ -1,7 +1,7 @@
 // Faults: every refusal has a number, a layer and a place.
 ghost use Rattle.std.specs.Prelude.{◌≡◌};
 ghost use Rattle.disk.specs.Faults.{disk_number, disk_layer, disk_place};
-ghost use Rattle.disk.specs.Above.{handed_on};
+ghost use Rattle.disk.specs.Above.{naming, handed_on};
 ghost use Rattle.disk.specs.Order.{RefusalOrder};
 
 // The layer that refuses.
@@ -49,6 +49,17 @@ impl DiskFault {
             DiskFault::Beyond(block) | DiskFault::Length(block) | DiskFault::Dead(block) => block,
         }
     }
+
+    // The same refusal, of another block.
+    fn of(self, block: u32) -> DiskFault
+        ensures { result ≡ naming block self }
+    {
+        match self {
+            DiskFault::Beyond(_) => DiskFault::Beyond(block),
+            DiskFault::Length(_) => DiskFault::Length(block),
+            DiskFault::Dead(_) => DiskFault::Dead(block),
+        }
+    }
 }
 
 // How many refusals a disk has. They are numbered in the order of its tests.
@@ -62,10 +73,5 @@ pub fn refusals_in_order() -> u32
 pub(crate) fn handed_on(answer: Result<(), DiskFault>, block: u32) -> Result<(), DiskFault>
     ensures { result ≡ handed_on block answer }
 {
-    match answer {
-        Ok(()) => Ok(()),
-        Err(DiskFault::Beyond(_)) => Err(DiskFault::Beyond(block)),
-        Err(DiskFault::Length(_)) => Err(DiskFault::Length(block)),
-        Err(DiskFault::Dead(_)) => Err(DiskFault::Dead(block)),
-    }
+    answer.map_err(|fault| fault.of(block))
 }

@@ -4,19 +4,16 @@
 ghost use Rattle.std.specs.Prelude.{◌≡◌, ℕ, length};
 ghost use Rattle.disk.specs.Meaning.{Blocks, Whole, refusal, answered, filled, written, counted};
 
+mod cards;
 mod fault;
-mod marked;
 mod pair;
-mod plain;
-mod runs;
 #[cfg(test)]
 mod tests;
 mod window;
 
+pub use cards::{Card, Layout, Marked, MarkedCard, Plain, PlainCard};
 pub use fault::{DiskFault, Layer, refusals_in_order};
-pub use marked::MarkedCard;
 pub use pair::Pair;
-pub use plain::PlainCard;
 pub use window::Window;
 
 // How many bytes a block has.

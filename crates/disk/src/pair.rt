@@ -12,12 +12,11 @@ pub struct Pair<F: Disk, S: Disk> {
     second: S,
 }
 
-// Where a block of a pair lies: a block of one disk, or of neither.
+// The side of a pair on which a block lies, and its number there.
 #[derive(Clone, Copy)]
-enum Place {
+enum Side {
     First(u32),
     Second(u32),
-    Neither,
 }
 
 impl<F: Disk, S: Disk> Pair<F, S> {
@@ -45,17 +44,18 @@ impl<F: Disk, S: Disk> Pair<F, S> {
         (self.first.count(), self.second.count())
     }
 
-    fn locate(&self, block: u32, buf: &[u8]) -> Place
+    // Where a block lies.
+    fn locate(&self, block: u32, buf: &[u8]) -> Result<Side, DiskFault>
         ensures { PairFound (F.Disk.blocks self.now.first) (S.Disk.blocks self.now.second) (F.Disk.writes self.now.first) (S.Disk.writes self.now.second) block buf.now result }
     {
         let (first, _) = self.counts();
         if block >= self.count() {
-            Place::Neither
-        } else if block < first {
-            Place::First(block)
-        } else {
-            Place::Second(block - first)
+            return Err(DiskFault::Beyond(block));
         }
+        if block < first {
+            return Ok(Side::First(block));
+        }
+        Ok(Side::Second(block - first))
     }
 }
 
@@ -70,10 +70,9 @@ impl<F: Disk, S: Disk> Disk for Pair<F, S> {
     }
 
     fn read(&self, block: u32, buf: &mut [u8]) -> Result<(), DiskFault> {
-        match self.locate(block, buf) {
-            Place::First(at) => handed_on(self.first.read(at, buf), block),
-            Place::Second(at) => handed_on(self.second.read(at, buf), block),
-            Place::Neither => Err(DiskFault::Beyond(block)),
+        match self.locate(block, buf)? {
+            Side::First(at) => handed_on(self.first.read(at, buf), block),
+            Side::Second(at) => handed_on(self.second.read(at, buf), block),
         }
     }
 
@@ -83,10 +82,9 @@ impl<F: Disk, S: Disk> Disk for Pair<F, S> {
         ensures writes { pair_writes (F.Disk.writes self.new.first) (S.Disk.writes self.new.second) ≡ counted (pair_shown F.Disk.blocks S.Disk.blocks self.old) block (length buf.now) (pair_writes (F.Disk.writes self.old.first) (S.Disk.writes self.old.second)) }
         ensures sides { PairSides (F.Disk.blocks self.old.first) (S.Disk.blocks self.old.second) (F.Disk.writes self.old.first) (S.Disk.writes self.old.second) block buf.now (F.Disk.blocks self.new.first) (S.Disk.blocks self.new.second) (F.Disk.writes self.new.first) (S.Disk.writes self.new.second) }
     {
-        match self.locate(block, buf) {
-            Place::First(at) => handed_on(self.first.write(at, buf), block),
-            Place::Second(at) => handed_on(self.second.write(at, buf), block),
-            Place::Neither => Err(DiskFault::Beyond(block)),
+        match self.locate(block, buf)? {
+            Side::First(at) => handed_on(self.first.write(at, buf), block),
+            Side::Second(at) => handed_on(self.second.write(at, buf), block),
         }
     }
 }

@@ -1,17 +1,31 @@
--- Firings in bytes.
-use Rattle.std.proofs.Common.{◌≡◌, ℕ, ◌+◌, ◌*◌, List, ap, ◌∙◌, arith}
+-- Firings in numbers.
+use Rattle.std.proofs.Common.{◌≡◌, ℕ, ◌+◌, ◌*◌, ◌/◌, ◌%◌, ◌<◌, List, [], ◌∷◌, length, map, slice_index, slice_index_or, sym, ap, ◌∙◌, arith}
+use Rattle.std.specs.List.{range_with_len}
+use Rattle.std.proofs.lemmas.List.FromFn.{fill_by_all, get_or-map-range_with_len}
 use Rattle.furnace.specs.declared.schedule.Firing.{Firing}
-use Rattle.furnace.specs.Words.{word_in}
-use Rattle.furnace.specs.Settings.{firing_in}
+use Rattle.furnace.specs.Words.{word_in, words_in}
+use Rattle.furnace.specs.Settings.{cold, firing_in, firings_in}
+use Rattle.furnace.proofs.Pairs.{first, second}
 
-pub firing_is : (f : Firing) (celsius minutes : ℕ) → celsius ≡ f.celsius → minutes ≡ f.minutes → record { celsius = celsius; minutes = minutes } ≡ f
-firing_is f a b p q = ap (λ x. record { celsius = x; minutes = b }) p ∙ ap (λ x. record { celsius = f.celsius; minutes = x }) q
+abbrev part : List Firing → ℕ → ℕ → ℕ
+part fs k j = let f = slice_index_or fs k cold in slice_index (f.celsius ∷ f.minutes ∷ []) j
 
--- after the two numbers of firing i are put in: `mid` has the first, `new` has both
-module _ (old mid new : List ℕ) (i : ℕ)
-    (first : (k : ℕ) → (k ≡ 2 * i → ⊥) → word_in mid k ≡ word_in old k) (second : (k : ℕ) → (k ≡ 2 * i + 1 → ⊥) → word_in new k ≡ word_in mid k) where
-  pub firing_here : (f : Firing) → word_in mid (2 * i) ≡ f.celsius → word_in new (2 * i + 1) ≡ f.minutes → firing_in new i ≡ f
-  firing_here f p q = firing_is f _ _ (second (2 * i) (omega arith) ∙ p) q
+-- number i of firings, two of each
+abbrev pub number_of : List Firing → ℕ → ℕ
+number_of fs i = part fs (i / 2) (i % 2)
 
-  pub firing_other : (k : ℕ) → (k ≡ i → ⊥) → firing_in new k ≡ firing_in old k
-  firing_other k ne = firing_is (firing_in old k) _ _ (second (2 * k) (omega arith) ∙ first (2 * k) (omega arith)) (second (2 * k + 1) (omega arith) ∙ first (2 * k + 1) (omega arith))
+module _ (fs : List Firing) (bs : List ℕ) (long : length fs ≡ 8) (same : words_in bs 16 ≡ map (number_of fs) (range_with_len 0 16)) where
+  number_at : (i : ℕ) → i < 16 → word_in bs i ≡ number_of fs i
+  number_at i lt =
+      sym (get_or-map-range_with_len (word_in bs) 0 16 i i 0 lt (omega arith)) ∙ ap (λ ns. slice_index ns i) same ∙
+      get_or-map-range_with_len (number_of fs) 0 16 i i 0 lt (omega arith)
+
+  firing_at : (k : ℕ) → k < 8 → slice_index_or fs k cold ≡ firing_in bs k
+  firing_at k lt =
+      let f = slice_index_or fs k cold in
+      let celsius = number_at (2 * k) (omega (arith, lt)) ∙ first (part fs) k in
+      let minutes = number_at (2 * k + 1) (omega (arith, lt)) ∙ second (part fs) k in
+      sym (ap (λ x. record { celsius = x; minutes = word_in bs (2 * k + 1) }) celsius ∙ ap (λ x. record { celsius = f.celsius; minutes = x }) minutes)
+
+  pub firings_back : firings_in bs ≡ fs
+  firings_back = sym (fill_by_all (firing_in bs) fs 8 cold long firing_at)

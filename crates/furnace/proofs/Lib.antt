@@ -1,1 +1,5 @@
+pub mod Pairs
+pub mod Made
+pub mod Bytes
 pub mod Firings
+pub mod Readings

@@ -1,5 +1,5 @@
 -- What the bytes of a schedule and of a melt record say.
-use Rattle.std.specs.Prelude.{ℕ, ◌+◌, ◌*◌, Bool, List, map, replicate, ◌==◌, slice_index}
+use Rattle.std.specs.Prelude.{ℕ, ◌+◌, ◌*◌, List, map, replicate, ◌==◌, slice_index}
 use Rattle.std.specs.List.{range_with_len}
 use Rattle.disk.specs.Meaning.{Blocks}
 use Rattle.object.specs.declared.Place.{Place}
@@ -9,7 +9,8 @@ use Rattle.model.specs.Calls.{outcome, reads}
 use Rattle.furnace.specs.declared.schedule.Firing.{Firing}
 use Rattle.furnace.specs.declared.schedule.Schedule.{Schedule}
 use Rattle.furnace.specs.declared.melt.Melt.{Melt}
-use Rattle.furnace.specs.Words.{word_in}
+use Rattle.furnace.specs.declared.shelf.Shelf.{Shelf}
+use Rattle.furnace.specs.Words.{word_in, words_in}
 
 -- the firing that a list has past its end
 abbrev pub cold : Firing
@@ -26,10 +27,20 @@ abbrev pub schedule_in : List ℕ → Schedule
 schedule_in bs = record { firings = firings_in bs }
 
 abbrev pub melt_in : List ℕ → Melt
-melt_in bs = record { readings = map (word_in bs) (range_with_len 0 256) }
+melt_in bs = record { readings = words_in bs 256 }
 
-abbrev pub shelf_in : List ℕ → Bool
-shelf_in bs = slice_index bs 0 == 1
+abbrev pub shelf_in : List ℕ → Shelf
+shelf_in bs = record { taken = slice_index bs 0 == 1 }
+
+-- where the card has each of them
+abbrev pub schedule_place : Place
+schedule_place = record { block = 64; offset = 0; size = 256 }
+
+abbrev pub melt_place : Place
+melt_place = record { block = 66; offset = 0; size = 4096 }
+
+abbrev pub shelf_place : Place
+shelf_place = record { block = 65; offset = 9; size = 1 }
 
 -- a read of an object of so many bytes, into a buffer of zeros
 abbrev pub reading : ℕ → Place → ℕ → View → Blocks → Outcome View

@@ -1,52 +1,52 @@
 // Two days at the furnace: the power fails on the first, in the middle of a change, and the second finds the one before it whole.
 use crate::melt::Melt;
-use crate::runs::{Worker, run_until};
+use crate::runs::{Run, run_until};
 use crate::schedule::{Firing, Schedule};
 use crate::settings::{Settings, load, store};
+use crate::shelf::Shelf;
 use crate::trouble::Trouble;
 use disk::{Disk, PlainCard};
 use journal::Journal;
 
-// A firing to this temperature, in so many minutes.
-fn firing(celsius: u16, minutes: u16) -> Firing {
-    Firing { celsius, minutes }
-}
-
 // A plate that is fused, with the shelf in.
 fn plate() -> Settings {
-    let firings = [
-        firing(230, 60),
-        firing(520, 90),
-        firing(620, 45),
-        firing(780, 40),
-        firing(800, 15),
-        firing(516, 20),
-        firing(516, 90),
-        firing(370, 120),
-    ];
     Settings {
-        schedule: Schedule { firings },
+        schedule: Schedule {
+            firings: [
+                (230, 60),
+                (520, 90),
+                (620, 45),
+                (780, 40),
+                (800, 15),
+                (516, 20),
+                (516, 90),
+                (370, 120),
+            ]
+            .map(Firing::from),
+        },
         melt: Melt::rising(20, 5, 1180),
-        shelf: true,
+        shelf: Shelf { taken: true },
     }
 }
 
 // A bowl that is cast, with the shelf out.
 fn bowl() -> Settings {
-    let firings = [
-        firing(200, 75),
-        firing(500, 120),
-        firing(650, 60),
-        firing(830, 45),
-        firing(850, 30),
-        firing(516, 25),
-        firing(516, 180),
-        firing(350, 240),
-    ];
     Settings {
-        schedule: Schedule { firings },
+        schedule: Schedule {
+            firings: [
+                (200, 75),
+                (500, 120),
+                (650, 60),
+                (830, 45),
+                (850, 30),
+                (516, 25),
+                (516, 180),
+                (350, 240),
+            ]
+            .map(Firing::from),
+        },
         melt: Melt::rising(900, 3, 1350),
-        shelf: false,
+        shelf: Shelf { taken: false },
     }
 }
 
@@ -54,11 +54,10 @@ fn bowl() -> Settings {
 fn show<D: Disk>(rt: &HostRuntime, journal: &mut Journal<D>) -> Result<(), Trouble> {
     let found = load(journal)?;
     println!(rt; "{found}")?;
-    if found == plate() {
-        println!(rt; "that is the plate, whole, and nothing of the bowl")?;
-    }
-    if found == bowl() {
-        println!(rt; "that is the bowl, whole, and nothing of the plate")?;
+    for (one, other, settings) in [("plate", "bowl", plate()), ("bowl", "plate", bowl())] {
+        if found == settings {
+            println!(rt; "that is the {one}, whole, and nothing of the {other}")?;
+        }
     }
     Ok(())
 }
@@ -72,10 +71,8 @@ fn keep<D: Disk>(
     let position = store(journal, settings)?;
     println!(rt; "stored the schedule, the melt record and the shelf bit: position {position}")?;
     let flushed = journal.flush()?;
-    let run = run_until(journal, Worker::Logger, flushed)?;
-    let steps = run.steps;
-    let end = run.position;
-    println!(rt; "the logger took {steps} steps: durable below position {end}")?;
+    let Run { steps, position } = run_until(journal, Journal::log_step, flushed)?;
+    println!(rt; "the logger took {steps} steps: durable below position {position}")?;
     Ok(())
 }
 
@@ -92,8 +89,7 @@ pub fn first_day(rt: &HostRuntime, card: &mut [u8]) -> Result<(), Trouble> {
     let flushed = journal.flush()?;
     println!(rt; "stored the bowl: position {position}, to be durable below {flushed}")?;
     for _ in 0..2 {
-        let step = journal.log_step()?;
-        let end = step.position;
+        let end = journal.log_step()?.position;
         println!(rt; "the logger took a step: still durable below position {end}")?;
     }
     println!(rt; "the power fails")?;
@@ -108,10 +104,8 @@ pub fn second_day(rt: &HostRuntime, card: &mut [u8]) -> Result<(), Trouble> {
     show(rt, &mut journal)?;
     keep(rt, &mut journal, &bowl())?;
     let end = journal.flush()?;
-    let run = run_until(&mut journal, Worker::Installer, end)?;
-    let steps = run.steps;
-    let start = run.position;
-    println!(rt; "the installer took {steps} steps: free below position {start}")?;
+    let Run { steps, position } = run_until(&mut journal, Journal::install_step, end)?;
+    println!(rt; "the installer took {steps} steps: free below position {position}")?;
     show(rt, &mut journal)?;
     if let Some(log) = journal.log() {
         let start = log.start();

@@ -6,6 +6,8 @@ mod melt;
 mod runs;
 mod schedule;
 mod settings;
+mod shelf;
+mod stored;
 mod trouble;
 mod words;
 

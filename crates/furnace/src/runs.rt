@@ -1,4 +1,4 @@
-// Runs of the logger and of the installer: steps until they have come far enough.
+// Runs of the logger or of the installer: steps until they have come far enough.
 ghost use Rattle.std.specs.Prelude.{◌≤◌, IfOk};
 
 use crate::trouble::Trouble;
@@ -7,13 +7,6 @@ use journal::{Journal, Step};
 use law::step_bound;
 use model::Fault;
 
-// Who takes steps: the logger makes updates durable, the installer carries them home.
-#[derive(Clone, Copy)]
-pub enum Worker {
-    Logger,
-    Installer,
-}
-
 // How many steps a run took, and the position that it came to.
 #[derive(Clone, Copy)]
 pub struct Run {
@@ -21,16 +14,17 @@ pub struct Run {
     pub position: u64,
 }
 
-// Lets the worker run until it is done with all below this position. The crash law bounds its steps.
-pub fn run_until<D: Disk>(
+// Takes steps until all below this position is done. The crash law bounds how many.
+pub fn run_until<D: Disk, F: FnMut(&mut Journal<D>) -> Result<Step, Fault>>(
     journal: &mut Journal<D>,
-    worker: Worker,
+    mut take_step: F,
     position: u64,
 ) -> Result<Run, Trouble>
+    requires { F.IsAlwaysCallable take_step }
     ensures { IfOk result (λ run. position ≤ run.position) }
 {
     for steps in 1..=step_bound() {
-        let step = take_step(journal, worker)?;
+        let step = take_step(journal)?;
         if step.position >= position {
             return Ok(Run {
                 steps,
@@ -39,11 +33,4 @@ pub fn run_until<D: Disk>(
         }
     }
     Err(Trouble::Unfinished)
-}
-
-fn take_step<D: Disk>(journal: &mut Journal<D>, worker: Worker) -> Result<Step, Fault> {
-    match worker {
-        Worker::Logger => journal.log_step(),
-        Worker::Installer => journal.install_step(),
-    }
 }

@@ -1,14 +1,19 @@
 // Firing schedules: what the kiln does, step by step.
-ghost use Rattle.std.specs.Prelude.{◌≡◌};
-ghost use Rattle.furnace.specs.Settings.{firings_in, schedule_in};
+ghost use Rattle.std.specs.Prelude.{◌≡◌, [], ◌∷◌};
+ghost use Rattle.std.proofs.Common.{rules};
+ghost use Rattle.furnace.specs.Settings.{schedule_place, schedule_in};
 
-use crate::words::{put_word, word_at};
-use std::fmt;
+use crate::stored::Stored;
+use crate::words::{word_at, word_bytes};
+use object::Place;
+use std::{array, fmt};
 
-// How many firings a schedule has, and how many bytes it takes.
+// How many firings a schedule has, how many numbers these are, and how many bytes.
 pub const FIRINGS: usize = 8;
 
-pub const SCHEDULE_BYTES: usize = 32;
+const WORDS: usize = 2 * FIRINGS;
+
+pub const SCHEDULE_BYTES: usize = 2 * WORDS;
 
 // One firing: the temperature to reach, and the minutes that it takes.
 #[derive(Clone, Copy, Debug, PartialEq)]
@@ -22,48 +27,55 @@ pub struct Schedule {
     pub firings: [Firing; FIRINGS],
 }
 
-// The bytes of firings, four each.
-fn firing_bytes(firings: &[Firing; FIRINGS]) -> [u8; SCHEDULE_BYTES]
-    ensures { firings_in result ≡ firings.now }
-{
-    let mut bytes = [0; SCHEDULE_BYTES];
-    for i in 0..FIRINGS {
-        put_word(&mut bytes, 2 * i, firings[i].celsius);
-        put_word(&mut bytes, 2 * i + 1, firings[i].minutes);
+impl Firing {
+    // The two numbers of a firing.
+    fn words(self) -> [u16; 2]
+        ensures { result ≡ self.celsius ∷ self.minutes ∷ [] }
+    {
+        [self.celsius, self.minutes]
     }
-    bytes
 }
 
-impl Schedule {
-    // The bytes of a schedule.
-    pub fn encode(&self) -> [u8; SCHEDULE_BYTES]
-        ensures { schedule_in result ≡ self.now }
-    {
-        firing_bytes(&self.firings)
+impl From<(u16, u16)> for Firing {
+    ghost from_gives = { λ pair r. r ≡ record { celsius = pair.0; minutes = pair.1 } };
+
+    // A firing to this temperature, in so many minutes.
+    fn from((celsius, minutes): (u16, u16)) -> Firing {
+        Firing { celsius, minutes }
+    }
+}
+
+impl Stored<SCHEDULE_BYTES> for Schedule {
+    const PLACE: Place = Place {
+        block: 64,
+        offset: 0,
+        size: 256,
+    };
+
+    ghost PLACE = { schedule_place };
+
+    ghost said = { schedule_in };
+
+    ghost in_a_block = { Prim.search rules };
+
+    fn encode(&self) -> [u8; SCHEDULE_BYTES] {
+        let words: [u16; WORDS] = array::from_fn(|i| self.firings[i / 2].words()[i % 2]);
+        word_bytes(&words)
     }
 
-    // The schedule that these bytes say.
-    pub fn decode(bytes: &[u8; SCHEDULE_BYTES]) -> Schedule
-        ensures { result ≡ schedule_in bytes.now }
-    {
-        let mut firings = [Firing {
-            celsius: 0,
-            minutes: 0,
-        }; FIRINGS];
-        for i in 0..FIRINGS {
-            firings[i] = Firing {
+    fn decode(bytes: &[u8; SCHEDULE_BYTES]) -> Schedule {
+        Schedule {
+            firings: array::from_fn(|i| Firing {
                 celsius: word_at(bytes, 2 * i),
                 minutes: word_at(bytes, 2 * i + 1),
-            };
+            }),
         }
-        Schedule { firings }
     }
 }
 
 impl fmt::Display for Firing {
     fn fmt<W: fmt::Write>(&self, f: &mut fmt::Formatter<W>) -> fmt::Result {
-        let celsius = self.celsius;
-        let minutes = self.minutes;
+        let Firing { celsius, minutes } = *self;
         write!(f, "{minutes} min to {celsius} °C")
     }
 }

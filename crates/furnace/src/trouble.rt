@@ -15,6 +15,7 @@ pub enum Trouble {
     Output,
 }
 
+// By hand, since a derive would keep the causes in Memory and Output, and so print more than these names.
 impl From<Fault> for Trouble {
     fn from(fault: Fault) -> Trouble {
         Trouble::Refused(fault)

@@ -1,6 +1,8 @@
 // Numbers of two bytes, the low byte first, one after another.
-ghost use Rattle.std.specs.Prelude.{◌≡◌, ℕ, ◌+◌, ◌*◌, ◌<◌, length, ◌≢◌};
-ghost use Rattle.furnace.specs.Words.{word_in};
+ghost use Rattle.std.specs.Prelude.{◌≡◌, ℕ, ◌+◌, ◌*◌, ◌/◌, ◌^◌, ◌<◌, length, slice_index};
+ghost use Rattle.furnace.specs.Words.{byte_of, word_in, words_in};
+
+use std::array;
 
 // The number in place i.
 pub fn word_at(bytes: &[u8], i: usize) -> u16
@@ -10,13 +12,16 @@ pub fn word_at(bytes: &[u8], i: usize) -> u16
     u16::from_le_bytes([bytes[2 * i], bytes[2 * i + 1]])
 }
 
-// Puts a number into place i. The others stay.
-pub fn put_word(bytes: &mut [u8], i: usize, word: u16)
-    requires { 2 * i + 1 < length bytes.old }
-    ensures here { word_in bytes.new i ≡ word }
-    ensures others { (k : ℕ) → (k ≢ i) → word_in bytes.new k ≡ word_in bytes.old k }
+// The bytes of N numbers, two of each.
+pub fn word_bytes<const N: usize, const B: usize>(words: &[u16; N]) -> [u8; B]
+    requires { B ≡ 2 * N }
+    ensures { words_in result N ≡ words.now }
 {
-    let [low, high] = word.to_le_bytes();
-    bytes[2 * i] = low;
-    bytes[2 * i + 1] = high;
+    array::from_fn(
+        |i| -> u8
+            requires { i < 2 * N }
+            ensures byte { result ≡ byte_of words.entry.now i }
+            ensures word { slice_index words.entry.now (i / 2) < 2 ^ 16 }
+        { words[i / 2].to_le_bytes()[i % 2] },
+    )
 }

@@ -1,5 +1,4 @@
 pub mod Views
-pub mod Operations
 pub mod Touching
 pub mod Slots
 pub mod Staging

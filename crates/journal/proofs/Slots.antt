@@ -1,7 +1,6 @@
 -- Reads and overwrites by the operation with a number: what happens in its slot is what happens to the journal.
 use Rattle.std.proofs.Common.{◌≡◌, ℕ, true, false, cond, List, [], length, set, Some, None, Ok, Option, unwrap_or, sym, refl, ap, ◌∙◌, ⊎_elim, arith}
-use Rattle.std.specs.Option.{option_map}
-use Rattle.std.proofs.lemmas.List.{set-get_or, map-set}
+use Rattle.std.proofs.lemmas.List.{set-get_or}
 use Rattle.std.proofs.lemmas.Bool.{cases_Bool}
 use Rattle.disk.specs.Tests.{unless}
 use Rattle.disk.specs.Meaning.{Blocks}
@@ -14,10 +13,7 @@ use Rattle.model.specs.Outcomes.{Outcome, decided, answering, refused_by, value_
 use Rattle.model.specs.Journal.{Open}
 use Rattle.model.specs.Calls.{reads, overwrites, called, operation, held_by, with_operation, reading, grants}
 use Rattle.journal_log.specs.declared.state.Log.{Log}
-use Rattle.journal_log.specs.View.{view}
-use Rattle.operation.specs.declared.table.Table.{Table}
-use Rattle.operation.specs.Table.{objects}
-use Rattle.journal.specs.View.{tables_of, opened}
+use Rattle.journal.specs.View.{opened}
 use Rattle.journal.specs.Touch.{seen_by, read_into, read_by, overwritten_by}
 
 -- what a call's outcome is, once it is told what refuses it
@@ -70,9 +66,6 @@ module _ (j : Open) (d : Blocks) (n : ℕ) (o : Place) where
     pub overwritten_none : (bytes : List ℕ) → called (overwrites n o bytes) j d ≡ refused_by Ticket bytes j d
     overwritten_none bytes = ap (λ t. decided (overwritten_by j.log d o t bytes) bytes j d (grants (overwrites n o bytes) j d)) none
 
--- ## The slot itself
-
 -- the journal after its slot has changed
-pub slot_set : (l : Log) (ts : List (Option Table)) (n : ℕ) (s : Option Table) (t : Option (List Held)) → option_map objects s ≡ t → opened l (set ts n s) ≡ with_operation (opened l ts) n t
-slot_set l ts n s t e =
-    ap (λ us. let k : Open = record { log = view l; operations = us } in k) (map-set (option_map objects) ts n s ∙ ap (set (tables_of ts) n) e)
+pub slot_set : (l : Log) (ts : List (Option (List Held))) (n : ℕ) (s t : Option (List Held)) → s ≡ t → opened l (set ts n s) ≡ with_operation (opened l ts) n t
+slot_set l ts n s t e = ap (λ x. with_operation (opened l ts) n x) e

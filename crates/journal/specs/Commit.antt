@@ -1,19 +1,16 @@
 -- What a commit makes ready before it changes anything.
-use Rattle.std.specs.Prelude.{ℕ, List, [], map, take, Ok, Err, Result}
+use Rattle.std.specs.Prelude.{ℕ, List, [], map, Ok, Err, Result}
 use Rattle.disk.specs.Meaning.{Blocks}
 use Rattle.card.specs.declared.Update.{Update}
 use Rattle.model.specs.Journal.{Open}
 use Rattle.model.specs.Calls.{held_by}
 use Rattle.model.specs.Operations.{dirty_blocks}
 use Rattle.journal_log.specs.Updates.{update_for}
-use Rattle.journal.specs.declared.staged.Staged.{Staged}
+use Rattle.arrayvec.specs.ArrayVec.{ArrayVec}
 
 -- the updates made ready, in order
-abbrev pub staged_in : Staged → List Update
-staged_in s = take s.len s.updates
-
-abbrev pub staged_as : {F : Type 0} → Result Staged F → Result (List Update) F
-staged_as (Ok s) = Ok (staged_in s)
+abbrev pub staged_as : {F : Type 0} → Result (ArrayVec Update) F → Result (List Update) F
+staged_as (Ok s) = Ok s.items
 staged_as (Err f) = Err f
 
 -- those of a commit: one for each dirty block

@@ -1,10 +1,8 @@
 -- What a journal in memory stands for, and what its calls answer.
-use Rattle.std.specs.Prelude.{◌≡◌, ℕ, List, [], map, Ok, Err, Option, Result}
+use Rattle.std.specs.Prelude.{◌≡◌, ℕ, List, [], Ok, Err, Option, Result}
 use Rattle.std.specs.Option.{option_map}
 use Rattle.disk.specs.Meaning.{Blocks}
 use Rattle.object.specs.Tables.{Held}
-use Rattle.operation.specs.declared.table.Table.{Table}
-use Rattle.operation.specs.Table.{objects}
 use Rattle.journal_log.specs.declared.state.Log.{Log}
 use Rattle.journal_log.specs.declared.steps.Step.{Step}
 use Rattle.journal_log.specs.View.{view as log_view}
@@ -18,17 +16,13 @@ use Rattle.journal.specs.declared.opened.Open.{Open}
 use Rattle.journal.specs.declared.ticket.Ticket.{Ticket}
 use Rattle.journal.specs.declared.ticket.Refused.{Refused}
 
--- what each operation holds, none where it is not open
-abbrev pub tables_of : List (Option Table) → List (Option (List Held))
-tables_of ts = map (option_map objects) ts
-
 -- open with its log, and no operation open
 abbrev pub view_of : Log → model.Open
 view_of l = opened_with (log_view l)
 
 -- open, with this log and these operations
-abbrev pub opened : Log → List (Option Table) → model.Open
-opened l ts = record (view_of l) { operations = tables_of ts }
+abbrev pub opened : Log → List (Option (List Held)) → model.Open
+opened l ts = record (view_of l) { operations = ts }
 
 -- what the memory of an open journal stands for
 abbrev pub open_view : Open → model.Open

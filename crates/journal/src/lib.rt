@@ -14,7 +14,7 @@ mod begin;
 mod commit;
 mod objects;
 mod opened;
-mod staged;
+mod operations;
 mod steps;
 #[cfg(test)]
 mod tests;
@@ -25,8 +25,9 @@ use disk::Disk;
 use journal_log::Log;
 pub use journal_log::Step;
 use model::Fault;
-pub use opened::OPERATIONS;
 use opened::Open;
+pub use operations::OPERATIONS;
+use operations::Operations;
 pub use ticket::{Refused, Ticket};
 
 // A journal on a disk, shut or open.
@@ -84,10 +85,7 @@ impl<D: Disk> Journal<D> {
     pub fn log(&self) -> Option<&Log>
         ensures { option_map (λ x. x.now) result ≡ option_map (λ o. o.log) self.now.state }
     {
-        match &self.state {
-            Some(open) => Some(&open.log),
-            None => None,
-        }
+        self.state.as_ref().map(|open| &open.log)
     }
 
     // Ends the journal and hands the disk back.
@@ -142,7 +140,7 @@ impl<D: Disk> Journal<D> {
         let end = log.end();
         self.state = Some(Open {
             log,
-            operations: [None; OPERATIONS],
+            operations: Operations::new(),
         });
         Ok(end)
     }

@@ -2,7 +2,8 @@
 use crate::*;
 use disk::{DiskFault, Layer, MarkedCard, PlainCard};
 
-// A disk of one's own: one that remembers the blocks of its last two writes.
+// A disk of one's own: one that remembers the blocks of its last two writes. `trials` has its like, which cannot be used here, since
+// `trials` stands on this crate.
 #[derive(Drop)]
 struct Traced<D: Disk> {
     disk: D,
@@ -57,10 +58,7 @@ fn format_writes_block_0_and_then_block_1(rt: HostRuntime) {
 type Told = (u32, Layer, u32, Option<DiskFault>);
 
 fn told(answer: Result<u64, Fault>) -> Option<Told> {
-    match answer {
-        Ok(_) => None,
-        Err(fault) => Some((fault.number(), fault.layer(), fault.place(), fault.cause())),
-    }
+    answer.err().map(|fault| (fault.number(), fault.layer(), fault.place(), fault.cause()))
 }
 
 #[test]
@@ -76,9 +74,9 @@ fn an_open_journal_refuses_format_and_opening(rt: HostRuntime) {
 
 // Format's and opening's answers on a marked card of so many blocks, all zero, of which one is dead.
 fn answers(bytes: &mut [u8], dead: usize) -> (Option<Told>, Option<Told>) {
-    for i in 0..bytes.len() {
-        if i % 513 == 512 && i / 513 != dead {
-            bytes[i] = 255;
+    for (block, cell) in bytes.chunks_exact_mut(513).enumerate() {
+        if block != dead {
+            cell[512] = 255;
         }
     }
     let mut journal = Journal::new(MarkedCard::new(bytes));

@@ -1,7 +1,8 @@
 -- Updates that are absorbed or added, in the rows.
-use Rattle.std.proofs.Common.{◌≡◌, ℕ, zero, suc, ◌+◌, ◌-◌, ◌<◌, ◌≤◌, Bool, true, false, cond, eqb, List, [], ◌∷◌, ◌++◌, length, get_or, take, drop, set, Ok, Err, sym, refl, ap, ◌∙◌, ⊎_elim, mod-lt, arith}
+use Rattle.std.proofs.Common.{◌≡◌, ℕ, zero, suc, ◌+◌, ◌-◌, ◌<◌, ◌≤◌, Bool, true, false, cond, eqb, List, [], ◌∷◌, ◌++◌, length, take, drop, set, not, is_some, MatchOption, Some, None, Ok, Err, Option, sym, refl, ap, ◌∙◌, ⊎_elim, mod-lt, arith}
+use Rattle.std.specs.List.{filter}
 use Rattle.std.proofs.lemmas.List.FromFn.{length-map-range_with_len, take-map-range_with_len, map-range_with_len_more}
-use Rattle.std.proofs.lemmas.List.{at_drop_more, append_assoc, length_push, take-append-drop, get_or-set_same, get_or-set_other}
+use Rattle.std.proofs.lemmas.List.{append_assoc, length_push, get_or-set_same, get_or-set_other}
 use Rattle.std.proofs.lemmas.Bool.{eq-eqb, ne_eqb, lt-ltb, le-ltb, cases_eq}
 use Rattle.disk.specs.Tests.{first_of, either}
 use Rattle.card.specs.declared.Update.{Update}
@@ -14,25 +15,10 @@ use Rattle.model.specs.Outcomes.{passed}
 use Rattle.model.specs.Steps.{absorbed, added, room_tests}
 use Rattle.model.proofs.Tests.{map_counting_same}
 use Rattle.journal_log.specs.Ring.{row_at, rows_from}
+use Rattle.journal_log.proofs.Rows.{drop_rows, split_rows}
 use Rattle.journal_log.specs.declared.state.Log.{Log}
 use Rattle.journal_log.specs.View.{view}
-use Rattle.journal_log.specs.Updates.{settled, NoneOf, FirstOf, has_home, fresh}
-
--- ## Rows from a position on
-
-pub drop_rows : (rows : List Update) (p n k : ℕ) → k ≤ n → drop k (rows_from rows p n) ≡ rows_from rows (p + k) (n - k)
-drop_rows rows p n zero l = ap (λ (q : ℕ). rows_from rows q n) (let e : p ≡ p + 0 = omega arith in e) ∙ ap (rows_from rows (p + 0)) (let e : n ≡ n - 0 = omega arith in e)
-drop_rows rows p zero (suc k) l = absurd (omega arith)
-drop_rows rows p (suc n) (suc k) l =
-    drop_rows rows (p + 1) n k (omega arith) ∙
-    ap (λ (q : ℕ). rows_from rows q (n - k)) (let e : p + 1 + k ≡ p + suc k = omega arith in e) ∙
-    ap (rows_from rows (p + suc k)) (let e : n - k ≡ suc n - suc k = omega arith in e)
-
-pub split_rows : (rows : List Update) (p n k : ℕ) → k ≤ n → rows_from rows p k ++ rows_from rows (p + k) (n - k) ≡ rows_from rows p n
-split_rows rows p n k l =
-    ap (λ us. us ++ rows_from rows (p + k) (n - k)) (sym (take-map-range_with_len (row_at rows) p n k l)) ∙
-    ap (λ us. take k (rows_from rows p n) ++ us) (sym (drop_rows rows p n k l)) ∙
-    take-append-drop k (rows_from rows p n)
+use Rattle.journal_log.specs.Updates.{settled, NoneOf, FirstOf, Absorbing, has_home, fresh}
 
 -- ## A row that is put
 
@@ -155,9 +141,22 @@ module _ (l : Log) (b : ℕ) where
   pub absorbs_at : (p : ℕ) → FirstOf l b p → has_home (drop (settled (view l)) (view l).updates) b ≡ true
   absorbs_at p h = ap (λ us. has_home us b) unsettled ∙ a_home l.ring.rows b _ _ p (omega (arith, h.from)) (omega (arith, h.from, h.live)) h.home
 
--- one block more is counted
-pub fresh_more : (bs : List ℕ) (us : List Update) (i : ℕ) → i < length bs → fresh (drop i bs) us ≡ cond (has_home us (get_or bs i 0)) 0 1 + fresh (drop (i + 1) bs) us
-fresh_more bs us i l = at_drop_more (λ (cs : List ℕ). fresh cs us) bs i 0 l
+  -- the first position from frozen on with that home, as it is looked for
+  pub absorbing_found : (r : Option ℕ) → MatchOption r (NoneOf l.ring.rows b l.frozen l.last) (λ p. (l.frozen ≤ p) × (p < l.last) × ((row_at l.ring.rows p).home ≡ b) × NoneOf l.ring.rows b l.frozen p) → Absorbing l b r
+  absorbing_found None h = h
+  absorbing_found (Some p) h = record { from = h.0; live = h.1; home = h.2; before = h.3 }
+
+  pub absorbing_told : (r : Option ℕ) → Absorbing l b r → is_some r ≡ has_home (drop (settled (view l)) (view l).updates) b
+  absorbing_told None h = sym (absorbs_none h)
+  absorbing_told (Some p) h = sym (absorbs_at p h)
+
+one_counted : (t : Bool) (b : ℕ) (bs : List ℕ) → length (cond (not t) (b ∷ bs) bs) ≡ cond t 0 1 + length bs
+one_counted true b bs = omega arith
+one_counted false b bs = omega arith
+
+pub fresh_counted : (bs : List ℕ) (vs : List Update) → length (filter (λ b. not (has_home vs b)) bs) ≡ fresh bs vs
+fresh_counted [] vs = refl
+fresh_counted (b ∷ bs) vs = one_counted (has_home vs b) b (filter (λ c. not (has_home vs c)) bs) ∙ ap (λ n. cond (has_home vs b) 0 1 + n) (fresh_counted bs vs)
 
 -- ## Room
 
@@ -170,3 +169,9 @@ module _ (l : model.Log) (us : List Update) where
 
   pub room_enough : length us ≤ slots → l.start + length us ≤ highest → Ok tt ≡ passed (first_of (room_tests l us))
   room_enough h i = rw (le-ltb slots (length us) h, le-ltb highest (l.start + length us) i)
+
+-- the updates of a log are as many as its positions
+pub length_updates : (l : Log) → length (view l).updates ≡ l.last - l.start
+length_updates l = length-map-range_with_len (row_at l.ring.rows) l.start (l.last - l.start)
+
+pub ruleset room = (room_full, room_spent, room_enough, length_updates)

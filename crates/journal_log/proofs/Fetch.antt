@@ -10,11 +10,11 @@ use Rattle.disk.proofs.Refusals.{inside}
 use Rattle.card.specs.Layout.{homes_from, bytes_on}
 use Rattle.model.specs.declared.LogFault.{LogFault}
 use Rattle.model.specs.declared.LogFault.TheVariants.{Small, Dead}
-use Rattle.model.specs.Outcomes.{value_unless, passed}
+use Rattle.model.specs.Outcomes.{passed}
 use Rattle.model.specs.Log.{size_tests, dead_test, card_tests}
 use Rattle.model.proofs.Tests.{past, first_from, value_ok, value_err}
 use Rattle.model.specs.Card.{Ready}
-use Rattle.model.proofs.Card.{ready_card, ready_granted}
+use Rattle.model.proofs.Card.{ready_card}
 use Rattle.journal_log.specs.View.{fetched, CardChecked}
 
 dead_only : (t : Bool) (b : ℕ) (f : DiskFault) → cond (not t) (Some (DeadBlock b)) None ≡ Some f → (t ≡ false) × (f ≡ DeadBlock b)
@@ -33,13 +33,6 @@ pub fetch_live : (d : Blocks) (b : ℕ) (bs : List ℕ) → b < length d → Ok 
 fetch_live d b bs h e =
     let v = value_ok (refusal d b block_size) (bytes_on d b) bs e in
     (live_only (is_live (block d b)) b (sym (inside d b block_size h refl) ∙ v.0), v.1)
-
--- below the data blocks a fetch is granted
-pub fetch_ready : (d : Blocks) → Ready d → (b : ℕ) → b < homes_from → fetched d b ≡ Ok (bytes_on d b)
-fetch_ready d r b h = ap (λ o. value_unless o (bytes_on d b)) (ready_granted d r b h block_size refl)
-
-pub never_refused : (d : Blocks) → Ready d → (b : ℕ) → b < homes_from → (f : DiskFault) → Err f ≡ fetched d b → ⊥
-never_refused d r b h f e = let p = fetch_ready d r b h in let z : ◌≡◌ {A = ℕ} 0 1 = cc in omega arith
 
 size_passed : (d : Blocks) → homes_from < length d → first_of (size_tests d) ≡ None
 size_passed d h = ap (λ t. cond t (Some Small) None) (lt-leb (length d) homes_from h)

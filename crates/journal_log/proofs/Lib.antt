@@ -1,7 +1,7 @@
 pub mod Fetch
 pub mod Checks
-pub mod Opening
-pub mod Writes
+pub mod Reading
+pub mod Rows
 pub mod Stepping
 pub mod Newest
 pub mod Adding

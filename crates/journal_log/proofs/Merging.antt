@@ -1,6 +1,6 @@
 -- Updates that are added in order, and those that a commit's dirty objects become.
 use Rattle.std.proofs.Common.{◌≡◌, ℕ, ◌+◌, ◌<◌, ◌≤◌, false, cond, eqb, List, [], ◌∷◌, map, length, get_or, take, drop, Some, sym, refl, ap, ◌∙◌, ⊎_elim, arith}
-use Rattle.std.proofs.lemmas.List.{at_drop_more, at_drop_all}
+use Rattle.std.proofs.lemmas.List.{at_drop_more}
 use Rattle.std.proofs.lemmas.Bool.{ne_eqb, eq-eqb, eqb-false, cases_eq}
 use Rattle.disk.specs.Tests.{either}
 use Rattle.disk.specs.Meaning.{Block, Blocks, block, bytes_or}
@@ -109,7 +109,3 @@ module _ (was log : Log) (vs : List Update) (i : ℕ) (l : i < length vs) (same 
         e ∙ ap (λ (x : Log). with_updates x next) same ∙ ap (with_updates was) (sym us),
         ap (added_all (settled was) (drop (i + 1) vs)) us ∙ next_rest,
       )
-
-pub all_added : (was log : Log) (vs : List Update) (i : ℕ) → length vs ≤ i → log ≡ with_updates was log.updates →
-    added_all (settled was) (drop i vs) log.updates ≡ added_all (settled was) vs was.updates → log ≡ with_updates was (added_all (settled was) vs was.updates)
-all_added was log vs i l same rest = same ∙ ap (with_updates was) (sym (at_drop_all (λ (ws : List Update). added_all (settled was) ws log.updates) vs i l) ∙ rest)

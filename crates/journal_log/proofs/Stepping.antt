@@ -1,6 +1,5 @@
 -- What a step does: the write of one block, and the log's updates by position.
-use Rattle.std.proofs.Common.{◌≡◌, ℕ, zero, suc, ◌+◌, ◌-◌, ◌<◌, ◌≤◌, Bool, true, false, cond, ltb, List, [], ◌∷◌, ◌++◌, map, length, take, drop, set, Some, None, Ok, Err, Option, Result, sym, refl, ap, ◌∙◌, subst, arith}
-use Rattle.std.specs.List.{range_with_len}
+use Rattle.std.proofs.Common.{◌≡◌, ℕ, ◌+◌, ◌-◌, ◌<◌, ◌≤◌, Bool, true, false, cond, ltb, List, [], ◌∷◌, ◌++◌, length, take, drop, max, set, Some, None, Ok, Err, Option, Result, sym, refl, ap, ◌∙◌, subst, arith}
 use Rattle.std.proofs.lemmas.List.FromFn.{length-map-range_with_len, get_or-map-range_with_len, take-map-range_with_len, map-range_with_len_more}
 use Rattle.disk.specs.declared.fault.DiskFault.{DiskFault}
 use Rattle.disk.specs.Tests.{unless}
@@ -19,8 +18,10 @@ use Rattle.model.specs.Steps.{frozen_at, logging_at, installing_at, ended_at, st
 use Rattle.journal_log.specs.declared.state.Log.{Log}
 use Rattle.journal_log.specs.declared.steps.Step.{Step}
 use Rattle.journal_log.specs.Ring.{row_at, rows_from}
+use Rattle.journal_log.specs.Rounds.{target_in}
 use Rattle.journal_log.specs.View.{view}
-use Rattle.journal_log.specs.Steps.{Logs, Installs, Stepped, new_target}
+use Rattle.journal_log.proofs.Rows.{rows_dropped}
+use Rattle.journal_log.specs.Steps.{Logs, Installs, Stepped, settling, block_told, new_target}
 
 pub stepped_as : {o p : Outcome model.Log} {r : Result Step LogFault} {l : model.Log} {d : Blocks} {w v : ℕ} → o ≡ p → Stepped p r l d w v → Stepped o r l d w v
 stepped_as {r = r} {l = l} {d = d} {w = w} {v = v} e s = subst (λ q. Stepped q r l d w v) (sym e) s
@@ -51,13 +52,13 @@ module _ (o : Outcome model.Log) (before after : model.Log) (d e : Blocks) (b : 
       }
 
   -- the disk grants it
-  pub step_granted : (l : model.Log) → l ≡ after → Ok tt ≡ answered (refusal d b (length bs)) → Stepped o (Ok (record { wrote = Some b; position = a })) l e w v
-  step_granted l to x =
+  pub step_granted : (l : model.Log) → l ≡ after → Ok tt ≡ answered (refusal d b (length bs)) → (s : Step) → s ≡ record { wrote = Some b; position = a } → Stepped o (Ok s) l e w v
+  step_granted l to x s told =
       let r = answered_ok (refusal d b (length bs)) x in
       let is : o ≡ wrote_one d b bs a after = does ∙ ap (λ y. decided (dead_for y) [] before d (wrote_one d b bs a after)) r in
       record {
-        answer = sym (ap (λ p. p.answer) is);
-        wrote = sym (ap (λ p. p.wrote) is);
+        answer = ap (λ (t : Step). Ok t.position) told ∙ sym (ap (λ p. p.answer) is);
+        wrote = ap (λ (t : Step). block_told t.wrote) told ∙ sym (ap (λ p. p.wrote) is);
         log = to ∙ sym (ap (λ p. p.state) is);
         blocks = blocks ∙ sym (ap (λ p. p.disk) is);
         writes = count ∙ ap (λ (y : Option DiskFault). unless y (one_more w) w) r ∙ sym (ap (λ p. writes_after p w) is);
@@ -70,21 +71,6 @@ last_is l = let n = length-map-range_with_len (row_at l.ring.rows) l.start (l.la
 
 pub update_is : (l : Log) (p : ℕ) → l.start ≤ p → p < l.last → update_at (view l) p ≡ row_at l.ring.rows p
 update_is l p a b = get_or-map-range_with_len (row_at l.ring.rows) l.start (l.last - l.start) (p - l.start) p _ (omega arith) (omega arith)
-
-drop_counting : {X : Type 0} (f : ℕ → X) (a n k : ℕ) → k ≤ n → drop k (map f (range_with_len a n)) ≡ map f (range_with_len (a + k) (n - k))
-drop_counting f a n zero h = ap (λ (m : ℕ). map f (range_with_len m n)) (let e : a ≡ a + 0 = omega arith in e) ∙ ap (λ (m : ℕ). map f (range_with_len (a + 0) m)) (let e : n ≡ n - 0 = omega arith in e)
-drop_counting f a zero (suc k) h = absurd (omega arith)
-drop_counting f a (suc n) (suc k) h =
-    drop_counting f (a + 1) n k (omega arith) ∙
-    ap (λ (m : ℕ). map f (range_with_len m (n - k))) (let e : a + 1 + k ≡ a + suc k = omega arith in e) ∙
-    ap (λ (m : ℕ). map f (range_with_len (a + suc k) m)) (let e : n - k ≡ suc n - suc k = omega arith in e)
-
--- the updates from a position on
-pub rows_dropped : (rows : List Update) (start last p : ℕ) → start ≤ p → p ≤ last → rows_from rows p (last - p) ≡ drop (p - start) (rows_from rows start (last - start))
-rows_dropped rows start last p a b =
-    let e : start + (p - start) ≡ p = omega arith in
-    let f : last - start - (p - start) ≡ last - p = omega arith in
-    sym (drop_counting (row_at rows) start (last - start) (p - start) (omega arith) ∙ ap (λ (m : ℕ). rows_from rows m (last - start - (p - start))) e ∙ ap (rows_from rows p) f)
 
 -- ## Home numbers
 
@@ -114,22 +100,19 @@ round_rows rows start last end target a b c =
 -- ## What each kind of step writes: the block and the bytes that the code names
 
 module _ (l : Log) (d : Blocks) (r : Round) where
-  module _ (frozen : ℕ) (k : Logs l r frozen) where
-    abbrev settling : model.Log
-    settling = frozen_at (view l) frozen
-
+  module _ (k : Logs l r) where
     pub next_does : (b : ℕ) (u : Update) → r.next < r.target → b ≡ log_block r.next → u ≡ row_at l.ring.rows r.next →
-        log_next (view l) settling r d ≡ writing (view l) d b u.bytes l.end (logging_at settling (record { next = r.next + 1; target = r.target }))
+        log_next (view l) (settling l r) r d ≡ writing (view l) d b u.bytes l.end (logging_at (settling l r) (record { next = r.next + 1; target = r.target }))
     next_does b u m at is =
-        let e = is ∙ sym (update_is l r.next (let o = l.order in omega (arith, k.from)) (omega (arith, k.settled, k.present))) in
-        let to = logging_at settling (record { next = r.next + 1; target = r.target }) in
+        let e = is ∙ sym (update_is l r.next (let o = l.order in omega (arith, k.from)) (omega (arith, k.present))) in
+        let to = logging_at (settling l r) (record { next = r.next + 1; target = r.target }) in
         ap (λ (x : ℕ). writing (view l) d x (update_at (view l) r.next).bytes l.end to) (sym at) ∙ ap (λ (x : Update). writing (view l) d b x.bytes l.end to) (sym e)
 
     pub header_does : (homes bs : List ℕ) → homes ≡ homes_after (view l) (record { next = r.target; target = r.target }) → bs ≡ header_block (record { end = r.target; homes = homes }) →
-        log_header (view l) settling r d ≡ writing (view l) d 0 bs r.target (ended_at settling r.target homes)
+        log_header (view l) (settling l r) r d ≡ writing (view l) d 0 bs r.target (ended_at (settling l r) r.target homes)
     header_does homes bs is coded =
-        ap (λ (x : List ℕ). writing (view l) d 0 (header_block (record { end = r.target; homes = x })) r.target (ended_at settling r.target x)) (sym is) ∙
-        ap (λ (x : List ℕ). writing (view l) d 0 x r.target (ended_at settling r.target homes)) (sym coded)
+        ap (λ (x : List ℕ). writing (view l) d 0 (header_block (record { end = r.target; homes = x })) r.target (ended_at (settling l r) r.target x)) (sym is) ∙
+        ap (λ (x : List ℕ). writing (view l) d 0 x r.target (ended_at (settling l r) r.target homes)) (sym coded)
 
   module _ (k : Installs l r) where
     pub home_does : (u : Update) → r.next < r.target → u ≡ row_at l.ring.rows r.next →
@@ -141,7 +124,17 @@ module _ (l : Log) (d : Blocks) (r : Round) where
     pub start_does : (bs : List ℕ) → bs ≡ start_block r.target → install_start (view l) r d ≡ writing (view l) d 1 bs r.target (started_at (view l) r.target)
     start_does bs coded = ap (λ (x : List ℕ). writing (view l) d 1 x r.target (started_at (view l) r.target)) (sym coded)
 
--- ## A logger step where no round runs
+-- ## A logger step
+
+-- where a round runs, all below its target is settled
+pub running : (l : Log) (d : Blocks) (r : Round) → l.logging ≡ Some r → log_step (view l) d ≡ log_round (view l) (settling l r) r d
+running l d r is =
+    let t : r.target ≤ l.frozen = subst (λ (o : Option Round). target_in o l.end ≤ l.frozen) is l.logged.2 in
+    ap (λ o. log_by o (view l) d) is ∙ ap (λ (n : ℕ). log_round (view l) (frozen_at (view l) n) r d) (let e : l.frozen ≡ max l.frozen r.target = omega arith in e)
+
+-- a new round to this position settles all below it
+pub begun : (l : Log) (d : Blocks) (p : ℕ) → l.frozen ≤ p → log_round (view l) (frozen_at (view l) p) (record { next = l.end; target = p }) d ≡ log_round (view l) (settling l (record { next = l.end; target = p })) (record { next = l.end; target = p }) d
+begun l d p h = ap (λ (n : ℕ). log_round (view l) (frozen_at (view l) n) (record { next = l.end; target = p }) d) (let e : p ≡ max l.frozen p = omega arith in e)
 
 module _ (l : Log) (d : Blocks) where
   -- a new round to this target, or nothing

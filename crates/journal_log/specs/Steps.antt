@@ -1,24 +1,28 @@
 -- What a step of logger or installer tells and leaves.
-use Rattle.std.specs.Prelude.{◌≡◌, ℕ, ◌≤◌, cond, List, [], ◌∷◌, Some, None, Ok, Err, Option, Result, nat_lt}
+use Rattle.std.specs.Prelude.{◌≡◌, ℕ, ◌≤◌, cond, List, [], ◌∷◌, Some, None, Ok, Err, Option, Result, nat_lt, max}
 use Rattle.disk.specs.Meaning.{Blocks}
 use Rattle.model.specs.declared.LogFault.{LogFault}
 use Rattle.model.specs.declared.Fault.{Fault}
 use Rattle.model.specs.declared.Fault.TheVariants.{Log as InLog}
 use Rattle.model.specs.declared.Round.{Round}
 use Rattle.model.specs.Log as model
+use Rattle.model.specs.Steps.{frozen_at}
 use Rattle.model.specs.Outcomes.{Outcome, writes_after}
 use Rattle.journal_log.specs.declared.state.Log.{Log}
 use Rattle.journal_log.specs.declared.steps.Step.{Step}
+use Rattle.journal_log.specs.View.{view}
 
 -- ## A round that can go on
 
--- the logger's, with frozen at this position
-pub record Logs (l : Log) (r : Round) (frozen : ℕ) : Type 0 where
+-- the logger's
+pub record Logs (l : Log) (r : Round) : Type 0 where
   pub from : l.end ≤ r.next
   pub to : r.next ≤ r.target
-  pub settled : r.target ≤ frozen
-  pub later : l.frozen ≤ frozen
-  pub present : frozen ≤ l.last
+  pub present : r.target ≤ l.last
+
+-- the log once a round has settled all below its target
+abbrev pub settling : Log → Round → model.Log
+settling l r = frozen_at (view l) (max l.frozen r.target)
 
 -- the installer's
 pub record Installs (l : Log) (r : Round) : Type 0 where

@@ -64,6 +64,18 @@ abbrev pub Absorbing : Log → ℕ → Option ℕ → Type 0
 Absorbing l b None = NoneOf l.ring.rows b l.frozen l.last
 Absorbing l b (Some p) = FirstOf l b p
 
+-- the last of all
+pub record LastOf (l : Log) (b p : ℕ) : Type 0 where
+  pub from : l.start ≤ p
+  pub live : p < l.last
+  pub home : (row_at l.ring.rows p).home ≡ b
+  pub after : NoneOf l.ring.rows b (p + 1) l.last
+
+-- the highest position whose update is of this home
+abbrev pub NewestAt : Log → ℕ → Option ℕ → Type 0
+NewestAt l b None = NoneOf l.ring.rows b l.start l.last
+NewestAt l b (Some p) = LastOf l b p
+
 -- ## Updates that are added in order
 
 abbrev pub added_all : ℕ → List Update → List Update → List Update

@@ -5,6 +5,7 @@ mod fetching;
 mod formatting;
 mod look;
 mod open;
+mod opening;
 mod ring;
 mod state;
 mod steps;

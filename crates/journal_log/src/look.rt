@@ -30,9 +30,8 @@ impl Log {
     pub fn home_at(&self, position: u64) -> Option<u32>
         ensures { result ≡ home_of self.now position }
     {
-        if position < self.start || position >= self.end {
-            return None;
-        }
-        Some(self.ring.at(position).home)
+        (self.start..self.end)
+            .contains(&position)
+            .then(|| self.ring.at(position).home)
     }
 }

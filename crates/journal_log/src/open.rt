@@ -1,5 +1,5 @@
 // Opening: what the card's log holds, if the card is sound. Nothing is written.
-ghost use Rattle.std.specs.Prelude.{◌≡◌, ℕ, ◌+◌, ◌<◌, ◌≤◌, map, None, MatchResult};
+ghost use Rattle.std.specs.Prelude.{◌≡◌, ℕ, ◌+◌, ◌<◌, ◌≤◌, map, None, MatchResult, IfOk, IfErr};
 ghost use Rattle.disk.specs.Tests.{first_of};
 ghost use Rattle.disk.specs.Meaning.{Whole};
 ghost use Rattle.card.specs.Layout.{bytes_on, start_on, end_on, live_positions, update_on, homes_from, slots};
@@ -10,6 +10,7 @@ ghost use Rattle.journal_log.specs.Ring.{row_at};
 ghost use Rattle.journal_log.specs.View.{head_on, viewed};
 
 use crate::fetching::{check_card, fetch};
+use crate::opening::Opening;
 use crate::ring::Ring;
 use crate::state::Log;
 use card::{
@@ -18,12 +19,13 @@ use card::{
 };
 use disk::{BLOCK, Disk};
 use model::LogFault;
+use std::ops::Range;
 
 // What blocks 0 and 1 hold.
 #[derive(Clone, Copy)]
-struct Head {
-    start: u64,
-    header: Header,
+pub(crate) struct Head {
+    pub(crate) start: u64,
+    pub(crate) header: Header,
 }
 
 // The bytes of block 0 or 1, whose bytes from `reserved` on must be zero.
@@ -48,67 +50,71 @@ fn check_positions(start: u64, end: u64) -> Result<(), LogFault>
     Ok(())
 }
 
-// Blocks 0 and 1.
-fn read_head<D: Disk>(disk: &D) -> Result<Head, LogFault>
-    requires { Ready (D.Disk.blocks disk.now) }
-    ensures { result ≡ value_unless (first_of (head_tests (D.Disk.blocks disk.now))) (head_on (D.Disk.blocks disk.now)) }
-{
-    let header = Header::decode(&fetch_clear(disk, 0, HEADER_END)?);
-    let start = decode_start(&fetch_clear(disk, 1, START_END)?);
-    check_positions(start, header.end)?;
-    Ok(Head { start, header })
-}
+impl<'a, D: Disk> Opening<'a, D> {
+    // Blocks 0 and 1 of a card that is ready.
+    fn begin(disk: &'a D) -> Result<Opening<'a, D>, LogFault>
+        requires { Ready (D.Disk.blocks disk.now) }
+        ensures ok { IfOk result (λ opening. (first_of (head_tests (D.Disk.blocks disk.now)) ≡ None) × (opening.disk.now ≡ disk.now)) }
+        ensures err { IfErr result (λ fault. first_of (head_tests (D.Disk.blocks disk.now)) ≡ Some fault) }
+    {
+        let header = Header::decode(&fetch_clear(disk, 0, HEADER_END)?);
+        let start = decode_start(&fetch_clear(disk, 1, START_END)?);
+        check_positions(start, header.end)?;
+        let head = Head { start, header };
+        Ok(Opening { disk, head })
+    }
 
-// Every live home number is that of a data block.
-fn check_ranges<D: Disk>(disk: &D, head: &Head) -> Result<(), LogFault>
-    requires { head.now ≡ head_on (D.Disk.blocks disk.now) }
-    ensures { result ≡ passed (first_of (map (range_test (D.Disk.blocks disk.now)) (live_positions (D.Disk.blocks disk.now)))) }
-{
-    let count = disk.count();
-    for p in head.start..head.header.end {
-        let home = head.header.home_of(p);
-        if home < HOMES_FROM || home >= count {
-            return Err(LogFault::HomeRange(log_block(p)));
+    // The live positions.
+    fn live(&self) -> Range<u64>
+        ensures { result ≡ record { start = self.now.head.start; end = self.now.head.header.end } }
+    {
+        self.head.start..self.head.header.end
+    }
+
+    // Every live home number is that of a data block.
+    fn check_ranges(&self) -> Result<(), LogFault>
+        ensures { result ≡ passed (first_of (map (range_test (D.Disk.blocks self.now.disk.now)) (live_positions (D.Disk.blocks self.now.disk.now)))) }
+    {
+        let homes = HOMES_FROM..self.disk.count();
+        for p in self.live() {
+            if !homes.contains(&self.head.header.home_of(p)) {
+                return Err(LogFault::HomeRange(log_block(p)));
+            }
         }
+        Ok(())
     }
-    Ok(())
-}
 
-// Every live home is live.
-fn check_lives<D: Disk>(disk: &D, head: &Head) -> Result<(), LogFault>
-    requires head { head.now ≡ head_on (D.Disk.blocks disk.now) }
-    requires ranges { first_of (map (range_test (D.Disk.blocks disk.now)) (live_positions (D.Disk.blocks disk.now))) ≡ None }
-    ensures { result ≡ passed (first_of (map (life_test (D.Disk.blocks disk.now)) (live_positions (D.Disk.blocks disk.now)))) }
-{
-    for p in head.start..head.header.end {
-        fetch(disk, head.header.home_of(p))?;
+    // Every live home is live.
+    fn check_lives(&self) -> Result<(), LogFault>
+        requires { first_of (map (range_test (D.Disk.blocks self.now.disk.now)) (live_positions (D.Disk.blocks self.now.disk.now))) ≡ None }
+        ensures { result ≡ passed (first_of (map (life_test (D.Disk.blocks self.now.disk.now)) (live_positions (D.Disk.blocks self.now.disk.now)))) }
+    {
+        for p in self.live() {
+            fetch(self.disk, self.head.header.home_of(p))?;
+        }
+        Ok(())
     }
-    Ok(())
-}
 
-// The homes of the live positions.
-fn check_homes<D: Disk>(disk: &D, head: &Head) -> Result<(), LogFault>
-    requires { head.now ≡ head_on (D.Disk.blocks disk.now) }
-    ensures { result ≡ passed (first_of (home_tests (D.Disk.blocks disk.now))) }
-{
-    check_ranges(disk, head)?;
-    check_lives(disk, head)
-}
-
-// The updates at the live positions.
-fn read_rows<D: Disk>(disk: &D, head: &Head) -> Result<Ring, LogFault>
-    requires ready { Ready (D.Disk.blocks disk.now) }
-    requires head { head.now ≡ head_on (D.Disk.blocks disk.now) }
-    requires room { end_on (D.Disk.blocks disk.now) ≤ start_on (D.Disk.blocks disk.now) + slots }
-    ensures { MatchResult result (λ ring. (p : ℕ) → start_on (D.Disk.blocks disk.now) ≤ p → p < end_on (D.Disk.blocks disk.now) → row_at ring.rows p ≡ update_on (D.Disk.blocks disk.now) p) (λ f. ⊥) }
-{
-    let mut ring = Ring::new();
-    for p in head.start..head.header.end {
-        let home = head.header.home_of(p);
-        let bytes = fetch(disk, log_block(p))?;
-        ring.put(p, Update { home, bytes });
+    // The homes of the live positions.
+    fn check_homes(&self) -> Result<(), LogFault>
+        ensures { result ≡ passed (first_of (home_tests (D.Disk.blocks self.now.disk.now))) }
+    {
+        self.check_ranges()?;
+        self.check_lives()
     }
-    Ok(ring)
+
+    // The updates at the live positions.
+    fn read_rows(&self) -> Result<Ring, LogFault>
+        ensures { MatchResult result (λ ring. (p : ℕ) → start_on (D.Disk.blocks self.now.disk.now) ≤ p → p < end_on (D.Disk.blocks self.now.disk.now) → row_at ring.rows p ≡ update_on (D.Disk.blocks self.now.disk.now) p) (λ f. ⊥) }
+    {
+        let mut ring = Ring::new();
+        for p in self.live() {
+            let home = self.head.header.home_of(p);
+            let bytes = fetch(self.disk, log_block(p))?;
+            ring.put(p, Update { home, bytes });
+        }
+        Ok(ring)
+    }
 }
 
 impl Log {
@@ -118,10 +124,10 @@ impl Log {
         ensures log { viewed result ≡ value_unless (first_of (opening_tests (D.Disk.blocks disk.now))) (log_on (D.Disk.blocks disk.now)) }
     {
         check_card(disk)?;
-        let head = read_head(disk)?;
-        check_homes(disk, &head)?;
-        let ring = read_rows(disk, &head)?;
-        let Head { start, header } = head;
+        let opening = Opening::begin(disk)?;
+        opening.check_homes()?;
+        let ring = opening.read_rows()?;
+        let Head { start, header } = opening.head;
         let Header { end, homes } = header;
         Ok(Log {
             start,

@@ -5,12 +5,15 @@
 //
 // The installer carries updates home in rounds. A round runs from the start to a target: first it writes the home of each position, then
 // block 1 with the target as the new start. Until then the log still shows the same bytes.
+//
+// The two stay apart: they write other blocks, change other fields and have other definitions, so one form for both would take all of these as
+// parameters. `Logs` and `Installs` tie a round to the log as it stands, which no field of the round can do.
 ghost use Rattle.std.specs.Prelude.{◌≡◌, ℕ, ◌<◌, ◌≤◌, MatchOption, slice_set};
 ghost use Rattle.card.specs.Layout.{slot as slot_of};
 ghost use Rattle.model.specs.Steps as means;
 ghost use Rattle.journal_log.specs.View.{view};
 ghost use Rattle.model.specs.Log.{last};
-ghost use Rattle.journal_log.specs.Steps.{Stepped, Logs, Installs, new_target};
+ghost use Rattle.journal_log.specs.Steps.{Stepped, Logs, Installs, settling, new_target};
 
 use crate::state::Log;
 use card::{Header, SLOTS, encode_start, log_block, slot};
@@ -22,6 +25,28 @@ use model::{LogFault, Round};
 pub struct Step {
     pub wrote: Option<u32>,
     pub position: u64,
+}
+
+impl Step {
+    // Nothing was left to do.
+    fn idle(position: u64) -> Step
+        ensures { result ≡ record { wrote = None; position = position } }
+    {
+        Step {
+            wrote: None,
+            position,
+        }
+    }
+
+    // This block was written.
+    fn wrote(block: u32, position: u64) -> Step
+        ensures { result ≡ record { wrote = Some block; position = position } }
+    {
+        Step {
+            wrote: Some(block),
+            position,
+        }
+    }
 }
 
 impl Log {
@@ -36,6 +61,7 @@ impl Log {
     }
 
     // The position after all updates.
+    #[tactic(auto, using(crate::proofs::Stepping::last_is))]
     fn past_updates(&self) -> u64
         ensures value { result ≡ last (view self.now) }
         ensures field { result ≡ self.now.last }
@@ -48,21 +74,21 @@ impl Log {
         ensures { Stepped (means.log_step (view self.old) (D.Disk.blocks disk.old)) result (view self.new) (D.Disk.blocks disk.new) (D.Disk.writes disk.old) (D.Disk.writes disk.new) }
     {
         if let Some(round) = self.logging {
-            return self.log_round(disk, round, self.frozen);
+            return self.log_round(disk, round);
         }
         match self.log_target() {
-            Some(target) => self.log_new(disk, target),
-            None => Ok(Step {
-                wrote: None,
-                position: self.end,
-            }),
+            Some(target) => {
+                let next = self.end;
+                self.log_round(disk, Round { next, target })
+            }
+            None => Ok(Step::idle(self.end)),
         }
     }
 
     // Where a new round of the logger ends: at frozen, else at last. None where all is durable.
     fn log_target(&self) -> Option<u64>
         ensures value { result ≡ new_target self.now }
-        ensures within { MatchOption result (self.now.last ≤ self.now.end) (λ target. Logs self.now (record { next = self.now.end; target = target }) target) }
+        ensures within { MatchOption result (self.now.last ≤ self.now.end) (λ target. (self.now.frozen ≤ target) × Logs self.now (record { next = self.now.end; target = target })) }
     {
         if self.end < self.frozen {
             return Some(self.frozen);
@@ -73,77 +99,47 @@ impl Log {
         None
     }
 
-    // The first step of a round that settles all below `target` and makes it durable.
-    fn log_new<D: Disk>(&mut self, disk: &mut D, target: u64) -> Result<Step, LogFault>
-        requires { Logs self.old (record { next = self.old.end; target = target }) target }
-        ensures { Stepped (means.log_round (view self.old) (means.frozen_at (view self.old) target) (record { next = self.old.end; target = target }) (D.Disk.blocks disk.old)) result (view self.new) (D.Disk.blocks disk.new) (D.Disk.writes disk.old) (D.Disk.writes disk.new) }
-    {
-        let next = self.end;
-        self.log_round(disk, Round { next, target }, target)
-    }
-
-    // A step in a round, with frozen where the round has it.
-    fn log_round<D: Disk>(
-        &mut self,
-        disk: &mut D,
-        round: Round,
-        frozen: u64,
-    ) -> Result<Step, LogFault>
-        requires { Logs self.old round frozen }
-        ensures { Stepped (means.log_round (view self.old) (means.frozen_at (view self.old) frozen) round (D.Disk.blocks disk.old)) result (view self.new) (D.Disk.blocks disk.new) (D.Disk.writes disk.old) (D.Disk.writes disk.new) }
+    // A step in a round, which settles all below its target.
+    fn log_round<D: Disk>(&mut self, disk: &mut D, round: Round) -> Result<Step, LogFault>
+        requires { Logs self.old round }
+        ensures { Stepped (means.log_round (view self.old) (settling self.old round) round (D.Disk.blocks disk.old)) result (view self.new) (D.Disk.blocks disk.new) (D.Disk.writes disk.old) (D.Disk.writes disk.new) }
     {
         if round.next < round.target {
-            self.log_next(disk, round, frozen)
+            self.log_next(disk, round)
         } else {
-            self.log_header(disk, round, frozen)
+            self.log_header(disk, round)
         }
     }
 
     // The next log block of a round.
-    fn log_next<D: Disk>(
-        &mut self,
-        disk: &mut D,
-        round: Round,
-        frozen: u64,
-    ) -> Result<Step, LogFault>
-        requires round { Logs self.old round frozen }
+    fn log_next<D: Disk>(&mut self, disk: &mut D, round: Round) -> Result<Step, LogFault>
+        requires round { Logs self.old round }
         requires more { round.next < round.target }
-        ensures { Stepped (means.log_next (view self.old) (means.frozen_at (view self.old) frozen) round (D.Disk.blocks disk.old)) result (view self.new) (D.Disk.blocks disk.new) (D.Disk.writes disk.old) (D.Disk.writes disk.new) }
+        ensures { Stepped (means.log_next (view self.old) (settling self.old round) round (D.Disk.blocks disk.old)) result (view self.new) (D.Disk.blocks disk.new) (D.Disk.writes disk.old) (D.Disk.writes disk.new) }
     {
         let block = log_block(round.next);
         disk.write(block, &self.ring.at(round.next).bytes)?;
-        self.frozen = frozen;
+        self.frozen = self.frozen.max(round.target);
         self.logging = Some(Round {
             next: round.next + 1,
-            target: round.target,
+            ..round
         });
-        Ok(Step {
-            wrote: Some(block),
-            position: self.end,
-        })
+        Ok(Step::wrote(block, self.end))
     }
 
     // Block 0, which ends a round.
-    fn log_header<D: Disk>(
-        &mut self,
-        disk: &mut D,
-        round: Round,
-        frozen: u64,
-    ) -> Result<Step, LogFault>
-        requires { Logs self.old round frozen }
-        ensures { Stepped (means.log_header (view self.old) (means.frozen_at (view self.old) frozen) round (D.Disk.blocks disk.old)) result (view self.new) (D.Disk.blocks disk.new) (D.Disk.writes disk.old) (D.Disk.writes disk.new) }
+    fn log_header<D: Disk>(&mut self, disk: &mut D, round: Round) -> Result<Step, LogFault>
+        requires { Logs self.old round }
+        ensures { Stepped (means.log_header (view self.old) (settling self.old round) round (D.Disk.blocks disk.old)) result (view self.new) (D.Disk.blocks disk.new) (D.Disk.writes disk.old) (D.Disk.writes disk.new) }
     {
         let end = round.target;
         let homes = self.homes_up_to(end);
         disk.write(0, &Header { end, homes }.encode())?;
         self.end = end;
-        self.frozen = frozen;
+        self.frozen = self.frozen.max(round.target);
         self.homes = homes;
         self.logging = None;
-        Ok(Step {
-            wrote: Some(0),
-            position: end,
-        })
+        Ok(Step::wrote(0, end))
     }
 
     // The home numbers of block 0 with those of the positions from the end up to `target`.
@@ -164,23 +160,15 @@ impl Log {
     {
         match self.installing {
             Some(round) => self.install_round(disk, round),
-            None if self.start < self.end => self.install_new(disk),
-            None => Ok(Step {
-                wrote: None,
-                position: self.start,
-            }),
+            None if self.start < self.end => {
+                let round = Round {
+                    next: self.start,
+                    target: self.end,
+                };
+                self.install_round(disk, round)
+            }
+            None => Ok(Step::idle(self.start)),
         }
-    }
-
-    // The first step of a round that carries all durable updates home.
-    fn install_new<D: Disk>(&mut self, disk: &mut D) -> Result<Step, LogFault>
-        ensures { Stepped (means.install_round (view self.old) (record { next = self.old.start; target = self.old.end }) (D.Disk.blocks disk.old)) result (view self.new) (D.Disk.blocks disk.new) (D.Disk.writes disk.old) (D.Disk.writes disk.new) }
-    {
-        let round = Round {
-            next: self.start,
-            target: self.end,
-        };
-        self.install_round(disk, round)
     }
 
     // A step in a round.
@@ -206,12 +194,9 @@ impl Log {
         disk.write(home, &update.bytes)?;
         self.installing = Some(Round {
             next: round.next + 1,
-            target: round.target,
+            ..round
         });
-        Ok(Step {
-            wrote: Some(home),
-            position: self.start,
-        })
+        Ok(Step::wrote(home, self.start))
     }
 
     // Block 1, which ends a round.
@@ -223,10 +208,7 @@ impl Log {
         disk.write(1, &encode_start(start))?;
         self.start = start;
         self.installing = None;
-        Ok(Step {
-            wrote: Some(1),
-            position: start,
-        })
+        Ok(Step::wrote(1, start))
     }
 }
 

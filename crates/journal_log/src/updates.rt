@@ -1,34 +1,39 @@
 // The updates of a log: the newest of a home, and those that commits add.
-ghost use Rattle.std.specs.Prelude.{◌≡◌, ◌+◌, ◌≤◌, List, length, drop};
+ghost use Rattle.std.specs.Prelude.{◌≡◌, ◌+◌, ◌≤◌, List, not, length, drop};
 ghost use Rattle.disk.specs.Meaning.{Block};
 ghost use Rattle.disk.specs.Tests.{first_of};
 ghost use Rattle.card.specs.Layout.{latest as latest_of, slots, highest};
 ghost use Rattle.model.specs.Outcomes.{passed};
 ghost use Rattle.model.specs.Steps.{room_tests, with_updates, added};
 ghost use Rattle.journal_log.specs.View.{view};
-ghost use Rattle.journal_log.specs.Updates.{settled, in_log, newest_read, in_fault, fresh as fresh_of, Absorbing, added_all};
+ghost use Rattle.journal_log.specs.Updates.{settled, has_home, in_log, newest_read, in_fault, fresh as fresh_of, Absorbing, NewestAt, added_all};
 
 use crate::fetching::fetch;
 use crate::state::Log;
 use card::{HIGHEST, SLOTS, Update};
 use disk::{BLOCK, Disk, DiskFault};
 use model::LogFault;
+use std::ops::Range;
 
 impl Log {
+    // The highest position whose update is of this home.
+    fn newest_position(&self, home: u32) -> Option<u64>
+        ensures { NewestAt self.now home result }
+    {
+        (self.start..self.last).rfind(|p| self.ring.at(*p).home == home)
+    }
+
     // The newest update of a home: that of the highest position.
+    #[tactic(auto, using(crate::proofs::Newest::newest_found))]
     pub fn latest(&self, block: u32) -> Option<&Update>
         ensures { (old : Block) → latest_of (view self.now).updates block old ≡ in_log result old }
     {
-        for p in (self.start..self.last).rev() {
-            let update = self.ring.at(p);
-            if update.home == block {
-                return Some(update);
-            }
-        }
-        None
+        let position = self.newest_position(block)?;
+        Some(self.ring.at(position))
     }
 
     // The newest bytes of a block: the log's, else the block's own.
+    #[tactic(auto, using(crate::proofs::Newest::newest_own))]
     pub fn newest<D: Disk>(&self, disk: &D, block: u32) -> Result<[u8; BLOCK], DiskFault>
         ensures { result ≡ newest_read (view self.now) (D.Disk.blocks disk.now) block }
     {
@@ -38,36 +43,38 @@ impl Log {
         fetch(disk, block)
     }
 
-    // The position whose update absorbs one of this home: the first from frozen on with that home.
+    // The positions whose updates may absorb others.
+    fn unsettled(&self) -> Range<u64>
+        ensures { result ≡ record { start = self.now.frozen; end = self.now.last } }
+    {
+        self.frozen..self.last
+    }
+
+    // The position whose update absorbs one of this home: the first unsettled one with that home.
     fn absorbing(&self, home: u32) -> Option<u64>
         ensures { Absorbing self.now home result }
     {
-        for p in self.frozen..self.last {
-            if self.ring.at(p).home == home {
-                return Some(p);
-            }
-        }
-        None
+        self.unsettled().find(|p| self.ring.at(*p).home == home)
+    }
+
+    // Whether an update of this home takes a position of its own.
+    #[tactic(auto, using(crate::proofs::Adding::absorbing_told))]
+    fn is_fresh(&self, home: u32) -> bool
+        ensures { result ≡ not (has_home (drop (settled (view self.now)) (view self.now).updates) home) }
+    {
+        self.absorbing(home).is_none()
     }
 
     // Where last would be with updates of these blocks, each named once.
     fn last_with(&self, blocks: &[u32]) -> u64
-        requires { length blocks.now ≤ 8 }
         ensures { result ≡ self.now.last + fresh_of blocks.now (drop (settled (view self.now)) (view self.now).updates) }
     {
-        let mut last = self.last;
-        for block in blocks {
-            last += match self.absorbing(*block) {
-                Some(_) => 0,
-                None => 1,
-            };
-        }
-        last
+        self.last + blocks.iter().filter(|block| self.is_fresh(**block)).count() as u64
     }
 
     // Whether the log can take updates of these blocks: it refuses for want of slots, then of positions.
+    #[tactic(auto, using(crate::proofs::Adding::room))]
     pub fn check_room(&self, blocks: &[u32]) -> Result<(), LogFault>
-        requires { length blocks.now ≤ 8 }
         ensures { (us : List Update) → length us ≡ length (view self.now).updates + fresh_of blocks.now (drop (settled (view self.now)) (view self.now).updates) → in_fault result ≡ passed (first_of (room_tests (view self.now) us)) }
     {
         let last = self.last_with(blocks);

@@ -3,28 +3,29 @@ ghost use Rattle.std.specs.Prelude.{◌≡◌, ℕ, length};
 ghost use Rattle.disk.specs.Plain.{plain_blocks};
 ghost use Rattle.journal.specs.View.{view};
 ghost use Rattle.model.specs.Journal.{shut};
-ghost use Rattle.list_card.specs.Listing.{told, listed, row_homes, live_told};
+ghost use Rattle.list_card.specs.Listing.{told, told_of, listed, row_homes, live_told};
 
+use arrayvec::ArrayVec;
 use card::SLOTS;
 use disk::{Disk, PlainCard};
 use journal::Journal;
 use journal_log::Log;
+use model::Fault;
 use std::fmt;
 
 // The live positions and their homes.
-#[derive(Clone, Copy)]
+#[derive(Drop)]
 pub struct Live {
     start: u64,
     end: u64,
-    homes: [u32; SLOTS],
+    homes: ArrayVec<u32, SLOTS>,
 }
 
+// How many blocks a card has, and what opening finds on it.
 #[derive(Drop)]
 pub struct Summary {
     blocks: u32,
-    refusal: u32,
-    place: u32,
-    live: Option<Live>,
+    found: Result<Live, Fault>,
 }
 
 // The homes of the positions from start up to end.
@@ -33,11 +34,24 @@ fn live_homes(log: &Log) -> Live
 {
     let start = log.start();
     let end = log.end();
-    let mut homes = [0u32; SLOTS];
-    for p in start..end {
-        homes[(p - start) as usize] = log.home_at(p).unwrap_or(0);
+    let mut homes = ArrayVec::new();
+    for position in start..end {
+        if let Some(home) = log.home_at(position) {
+            homes.push(home);
+        }
     }
     Live { start, end, homes }
+}
+
+// The live positions of a shut journal's card, once it is open.
+fn open<D: Disk>(journal: &mut Journal<D>) -> Result<Live, Fault>
+    requires { view journal.old ≡ shut }
+    ensures found { told_of (length (D.Disk.blocks journal.old.disk)) result ≡ listed (D.Disk.blocks journal.old.disk) }
+    ensures disk { journal.new.disk ≡ journal.old.disk }
+{
+    journal.open()?;
+    let log = journal.log().ok_or(Fault::Shut)?;
+    Ok(live_homes(log))
 }
 
 // What opening this shut journal finds.
@@ -46,26 +60,9 @@ fn examine<D: Disk>(journal: &mut Journal<D>) -> Summary
     ensures fields { told result ≡ listed (D.Disk.blocks journal.old.disk) }
     ensures disk { journal.new.disk ≡ journal.old.disk }
 {
-    let blocks = journal.disk().count();
-    match journal.open() {
-        Err(fault) => Summary {
-            blocks,
-            refusal: fault.number(),
-            place: fault.place(),
-            live: None,
-        },
-        Ok(_) => {
-            let live = match journal.log() {
-                Some(log) => Some(live_homes(log)),
-                None => None,
-            };
-            Summary {
-                blocks,
-                refusal: 0,
-                place: 0,
-                live,
-            }
-        }
+    Summary {
+        blocks: journal.disk().count(),
+        found: open(journal),
     }
 }
 
@@ -77,29 +74,51 @@ pub fn listing(mut bytes: Vec<u8>) -> Summary
     examine(&mut journal)
 }
 
-impl fmt::Display for Summary {
-    fn fmt<W: fmt::Write>(&self, f: &mut fmt::Formatter<W>) -> fmt::Result {
-        let blocks = self.blocks;
-        let refusal = self.refusal;
-        let place = self.place;
-        write!(f, "blocks={blocks}\nrefusal={refusal}\nplace={place}\n")?;
-        match self.live {
-            Some(live) => show_live(&live, f),
-            None => write!(f, "start=-\nend=-\nhomes=-\n"),
+impl Summary {
+    // The number of the refusal, or 0.
+    pub fn refusal(&self) -> u32
+        ensures { result ≡ (told self.now).refusal }
+    {
+        match &self.found {
+            Ok(_) => 0,
+            Err(fault) => fault.number(),
+        }
+    }
+
+    // The block that the refusal is about, or 0.
+    pub fn place(&self) -> u32
+        ensures { result ≡ (told self.now).place }
+    {
+        match &self.found {
+            Ok(_) => 0,
+            Err(fault) => fault.place(),
         }
     }
 }
 
-fn show_live<W: fmt::Write>(live: &Live, f: &mut fmt::Formatter<W>) -> fmt::Result {
-    let start = live.start;
-    let end = live.end;
-    write!(f, "start={start}\nend={end}\nhomes=")?;
-    let count = end.saturating_sub(start) as usize;
-    for (i, home) in live.homes.iter().take(count).enumerate() {
-        if i > 0 {
-            write!(f, ",")?;
+impl fmt::Display for Live {
+    fn fmt<W: fmt::Write>(&self, f: &mut fmt::Formatter<W>) -> fmt::Result {
+        let Live { start, end, homes } = self;
+        write!(f, "start={start}\nend={end}\nhomes=")?;
+        for (i, home) in homes.iter().enumerate() {
+            if i > 0 {
+                write!(f, ",")?;
+            }
+            write!(f, "{home}")?;
         }
-        write!(f, "{home}")?;
+        writeln!(f)
     }
-    write!(f, "\n")
+}
+
+impl fmt::Display for Summary {
+    fn fmt<W: fmt::Write>(&self, f: &mut fmt::Formatter<W>) -> fmt::Result {
+        let blocks = self.blocks;
+        let refusal = self.refusal();
+        let place = self.place();
+        writeln!(f, "blocks={blocks}\nrefusal={refusal}\nplace={place}")?;
+        match &self.found {
+            Ok(live) => write!(f, "{live}"),
+            Err(_) => writeln!(f, "start=-\nend=-\nhomes=-"),
+        }
+    }
 }

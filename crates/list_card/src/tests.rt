@@ -1,6 +1,8 @@
 // What a listing says of example cards.
 use crate::lists::listing;
 use std::alloc::Global;
+use std::array;
+use std::fmt::Write;
 use std::process::Abort;
 use std::test::Fail;
 
@@ -75,19 +77,16 @@ fn wrapped(i: u8) -> (usize, u8) {
 #[test]
 fn sixty_two_positions_that_wrap(rt: HostRuntime) -> Result<(), Fail> {
     let heap = rt.alloc();
-    let mut bytes = Vec::new(heap);
-    for i in 0..64 {
-        bytes.push(wrapped(i))?;
-    }
+    let bytes: [(usize, u8); 64] = array::from_fn(|i| wrapped(i as u8));
     let mut wanted = String::from_str(
         heap,
         "blocks=70\nrefusal=0\nplace=0\nstart=10\nend=72\nhomes=68",
     )?;
     for p in 11..72u8 {
         let home = 64 + p % 62 % 6;
-        wanted.push_str(format!(in heap; ",{home}")?.as_str())?;
+        write!(wanted, ",{home}")?;
     }
-    wanted.push_str("\n")?;
-    assert_eq!(rt; listed(heap, 70 * 512, bytes.as_slice())?, wanted);
+    writeln!(wanted)?;
+    assert_eq!(rt; listed(heap, 70 * 512, &bytes)?, wanted);
     Ok(())
 }

@@ -10,6 +10,7 @@ mod parts;
 
 use disk::DiskFault;
 pub use laws::{bits_of_objects, bytes_of_objects, first_fault, held_at_most, largest_object};
+pub use parts::Spot;
 
 // An object of a data block: where it is and how large, in bits.
 #[derive(Clone, Copy, Debug, PartialEq)]

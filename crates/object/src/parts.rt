@@ -34,35 +34,51 @@ impl Place {
             (self.size / 8) as usize
         }
     }
+}
+
+// A place that an object has: of an allowed size, at an offset of that size within the block.
+#[derive(Clone, Copy)]
+pub struct Spot {
+    pub place: Place,
+    ghost placed: { Placed place },
+}
+
+impl Spot {
+    pub fn new(place: Place) -> Spot
+        requires { Placed place }
+        ensures { result.place ≡ place }
+    {
+        Spot { place }
+    }
 
     // Fills `value` with the object's bytes in this block.
     pub fn take(&self, block: &[u8; BLOCK], value: &mut [u8])
-        requires placed { Placed self.now }
-        requires long { length value.old ≡ width_of self.now.size }
-        ensures bytes { value.new ≡ part self.now block.now }
-        ensures bit { self.now.size ≡ 1 → slice_index value.new 0 < 2 }
+        requires { length value.old ≡ width_of self.now.place.size }
+        ensures bytes { value.new ≡ part self.now.place block.now }
+        ensures bit { self.now.place.size ≡ 1 → slice_index value.new 0 < 2 }
     {
-        let at = (self.offset / 8) as usize;
-        if self.size == 1 {
-            value[0] = bit_of(block[at], self.offset % 8);
+        let Place { offset, size, .. } = self.place;
+        let at = (offset / 8) as usize;
+        if size == 1 {
+            value[0] = bit_of(block[at], offset % 8);
         } else {
-            let end = at + self.width();
+            let end = at + self.place.width();
             value.copy_from_slice(&block[at..end]);
         }
     }
 
     // Lays the object's bytes into a block; every other bit stays.
     pub fn lay(&self, value: &[u8], block: &mut [u8; BLOCK])
-        requires placed { Placed self.now }
-        requires long { length value.now ≡ width_of self.now.size }
-        requires bit { self.now.size ≡ 1 → slice_index value.now 0 < 2 }
-        ensures { block.new ≡ laid self.now value.now block.old }
+        requires long { length value.now ≡ width_of self.now.place.size }
+        requires bit { self.now.place.size ≡ 1 → slice_index value.now 0 < 2 }
+        ensures { block.new ≡ laid self.now.place value.now block.old }
     {
-        let at = (self.offset / 8) as usize;
-        if self.size == 1 {
-            block[at] = with_bit(block[at], self.offset % 8, value[0]);
+        let Place { offset, size, .. } = self.place;
+        let at = (offset / 8) as usize;
+        if size == 1 {
+            block[at] = with_bit(block[at], offset % 8, value[0]);
         } else {
-            let end = at + self.width();
+            let end = at + self.place.width();
             block[at..end].copy_from_slice(value);
         }
     }

@@ -1,6 +1,3 @@
-pub mod Entries
-pub mod Found
-pub mod Room
-pub mod Adds
-pub mod Listing
 pub mod Zeros
+pub mod Tables
+pub mod Listing

@@ -1,27 +1,10 @@
--- The blocks of dirty objects, and the bytes with them laid in, found one object after another.
-use Rattle.std.proofs.Common.{◌≡◌, ℕ, ◌+◌, ◌<◌, ◌≤◌, Bool, true, false, cond, not, eqb, List, [], ◌∷◌, ◌++◌, map, length, get_or, take, drop, set, sym, refl, ap, ◌∙◌, arith}
-use Rattle.std.proofs.lemmas.List.{append_assoc, append-nil, length_push, drop_more, drop_all, take_more_set, at_drop_more, at_drop_all}
-use Rattle.std.proofs.lemmas.Bool.{eq-eqb, ne_eqb}
+-- The blocks of dirty objects, found one object after another.
+use Rattle.std.proofs.Common.{◌≡◌, ℕ, ◌+◌, ◌<◌, ◌≤◌, Bool, true, false, cond, not, eqb, List, [], ◌∷◌, ◌++◌, length, get_or, drop, sym, refl, ap, ◌∙◌, arith}
+use Rattle.std.proofs.lemmas.List.{append_assoc, length_push, drop_more}
 use Rattle.disk.specs.Tests.{both, either}
 use Rattle.object.specs.Tables.{Held}
-use Rattle.model.specs.Operations.{among, dirty_blocks, laid_in}
-use Rattle.operation.specs.declared.held.Held.{Held as Entry}
-use Rattle.operation.specs.Held.{held_in}
-use Rattle.operation.specs.Blocks.{with_dirty}
-
--- whether b is among those from i on
-module _ (b : ℕ) (bs : List ℕ) (i : ℕ) where
-  among_more : i < length bs → among b (drop i bs) ≡ either (eqb b (get_or bs i 0)) (among b (drop (i + 1) bs))
-  among_more l = at_drop_more (among b) bs i 0 l
-
-  pub among_here : i < length bs → b ≡ get_or bs i 0 → among b (drop i bs) ≡ true
-  among_here l e = among_more l ∙ rw (eq-eqb b (get_or bs i 0) e)
-
-  pub among_later : i < length bs → (b ≡ get_or bs i 0 → ⊥) → among b (drop i bs) ≡ among b (drop (i + 1) bs)
-  among_later l n = among_more l ∙ rw (ne_eqb b (get_or bs i 0) n)
-
-  pub among_none : length bs ≤ i → among b (drop i bs) ≡ false
-  among_none l = at_drop_all (among b) bs i l
+use Rattle.model.specs.Operations.{among, dirty_blocks}
+use Rattle.operation.specs.Table.{with_dirty}
 
 -- the same blocks are listed, in whatever order
 abbrev Same : List ℕ → List ℕ → Type 0
@@ -58,28 +41,13 @@ longer_by : (bs : List ℕ) (b : ℕ) (t : Bool) → length (cond t (bs ++ b ∷
 longer_by bs b true = let l = length_push bs b in omega arith
 longer_by bs b false = omega arith
 
--- of entries, bs lists the blocks before i, and cs those up to it
-module _ (es : List Entry) (i : ℕ) (d : Entry) (bs cs : List ℕ) (is : cs ≡ with_dirty bs (held_in (get_or es i d))) where
+-- bs lists the blocks before the object h at i, and cs those up to it
+module _ (hs : List Held) (i : ℕ) (h : Held) (at : h ≡ get_or hs i h) (bs cs : List ℕ) (is : cs ≡ with_dirty bs h) where
   pub listed_longer : length cs ≤ length bs + 1
-  listed_longer = rw is (longer_by bs (get_or es i d).place.block _)
+  listed_longer = rw is (longer_by bs h.place.block _)
 
-  pub listed_more : i < length es → bs ++ dirty_blocks (map held_in (drop i es)) bs ≡ cs ++ dirty_blocks (map held_in (drop (i + 1) es)) cs
+  pub listed_more : i < length hs → bs ++ dirty_blocks (drop i hs) bs ≡ cs ++ dirty_blocks (drop (i + 1) hs) cs
   listed_more l =
-      ap (λ xs. bs ++ dirty_blocks (map held_in xs) bs) (drop_more es i d l) ∙
-      listed_by bs (get_or es i d).place.block (map held_in (drop (i + 1) es)) _ ∙
-      ap (λ xs. xs ++ dirty_blocks (map held_in (drop (i + 1) es)) xs) (sym is)
-
-pub listed_all : (es : List Entry) (i : ℕ) (bs : List ℕ) → length es ≤ i → bs ++ dirty_blocks (map held_in (drop i es)) bs ≡ bs
-listed_all es i bs l = ap (λ xs. bs ++ dirty_blocks (map held_in xs) bs) (drop_all i es l) ∙ append-nil bs
-
--- a dirty object's block that is not listed comes at the end
-pub dirty_added : (bs : List ℕ) (n : ℕ) (h : Held) → n < length bs → h.dirty ≡ true → false ≡ among h.place.block (take n bs) → take (n + 1) (set bs n h.place.block) ≡ with_dirty (take n bs) h
-dirty_added bs n h l d a = rw (d, ← a) (take_more_set bs n h.place.block l)
-
--- objects laid into a block from entry i on; bs are its bytes before the entry, and cs those after
-module _ (es : List Entry) (i b : ℕ) where
-  pub laid_more : (d : Entry) (bs cs : List ℕ) → i < length es → cs ≡ laid_in (held_in (get_or es i d) ∷ []) b bs → laid_in (map held_in (drop i es)) b bs ≡ laid_in (map held_in (drop (i + 1) es)) b cs
-  laid_more d bs cs l e = at_drop_more (λ xs. laid_in (map held_in xs) b bs) es i d l ∙ ap (laid_in (map held_in (drop (i + 1) es)) b) (sym e)
-
-  pub laid_all : (bs : List ℕ) → length es ≤ i → laid_in (map held_in (drop i es)) b bs ≡ bs
-  laid_all bs l = at_drop_all (λ xs. laid_in (map held_in xs) b bs) es i l
+      ap (λ xs. bs ++ dirty_blocks xs bs) (drop_more hs i h l ∙ ap (λ g. g ∷ drop (i + 1) hs) (sym at)) ∙
+      listed_by bs h.place.block (drop (i + 1) hs) _ ∙
+      ap (λ xs. xs ++ dirty_blocks (drop (i + 1) hs) xs) (sym is)

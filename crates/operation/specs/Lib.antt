@@ -1,4 +1,3 @@
-pub mod Blocks
 pub mod Held
 pub mod Place
 pub mod Table

@@ -2,15 +2,14 @@
 ghost use Rattle.std.specs.Prelude.{◌≡◌, ◌%◌, ◌<◌, true, length, OnOk, ◌==◌, nat_lt, slice_index};
 ghost use Rattle.disk.specs.Tests.{first_of};
 ghost use Rattle.object.specs.Objects.{allowed, width};
-ghost use Rattle.object.specs.Laws.{Placed};
-ghost use Rattle.model.specs.Outcomes.{passed};
+ghost use Rattle.model.specs.Outcomes.{passed, value_unless};
 ghost use Rattle.model.specs.Operations.{place_tests, bit_tests};
-ghost use Rattle.operation.specs.Place.{strays};
+ghost use Rattle.operation.specs.Place.{strays, spot_told};
 ghost use Rattle.operation.specs.Table.{as_fault};
 
 use card::HOMES_FROM;
 use disk::Disk;
-use object::{ObjectFault, Place};
+use object::{ObjectFault, Place, Spot};
 
 // How many bits a block has.
 const BLOCK_BITS: u32 = 4096;
@@ -43,9 +42,10 @@ fn is_astray<D: Disk>(disk: &D, place: Place) -> bool
 
 // The size is allowed, the block is a data block of the disk, the offset is one that such an object has, and the buffer is as long as
 // the object.
-pub fn check_place<D: Disk>(disk: &D, place: Place, len: usize) -> Result<(), ObjectFault>
-    ensures answer { as_fault result ≡ passed (first_of (place_tests (D.Disk.blocks disk.now) place len)) }
-    ensures known { OnOk result (Placed place × (len ≡ width place.size) × (place.block < length (D.Disk.blocks disk.now))) }
+pub fn check_place<D: Disk>(disk: &D, place: Place, len: usize) -> Result<Spot, ObjectFault>
+    ensures answer { as_fault (spot_told result) ≡ value_unless (first_of (place_tests (D.Disk.blocks disk.now) place len)) place }
+    ensures long { OnOk result (len ≡ width place.size) }
+    ensures inside { OnOk result (place.block < length (D.Disk.blocks disk.now)) }
 {
     if !is_allowed(place.size) {
         return Err(ObjectFault::Size(place.block));
@@ -56,7 +56,7 @@ pub fn check_place<D: Disk>(disk: &D, place: Place, len: usize) -> Result<(), Ob
     if len != place.width() {
         return Err(ObjectFault::Buffer(place.block));
     }
-    Ok(())
+    Ok(Spot::new(place))
 }
 
 // Whether the first byte is neither 0 nor 1.

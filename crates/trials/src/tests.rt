@@ -19,17 +19,14 @@ fn tell(fault: Fault) -> Told {
 
 // What the fault of an answer says, if it is one.
 fn told<T: Drop>(answer: Result<T, Fault>) -> Option<Told> {
-    match answer {
-        Ok(_) => None,
-        Err(fault) => Some(tell(fault)),
-    }
+    answer.err().map(tell)
 }
 
 // Marks the blocks of a marked card as live, all but one.
 fn mark(bytes: &mut [u8], dead: usize) {
-    for i in 0..bytes.len() {
-        if i % 513 == 512 && i / 513 != dead {
-            bytes[i] = 255;
+    for (number, block) in bytes.chunks_exact_mut(513).enumerate() {
+        if number != dead {
+            block[512] = 255;
         }
     }
 }
@@ -58,13 +55,10 @@ fn opened<D: Disk + Drop>(disk: D) -> Result<Journal<D>, Fault> {
 
 // Commits an operation, and gives it up where that is refused.
 fn spend<D: Disk>(journal: &mut Journal<D>, ticket: Ticket) -> Result<u64, Fault> {
-    match journal.commit(ticket) {
-        Ok(position) => Ok(position),
-        Err(Refused { ticket, fault }) => {
-            let _ = journal.give_up(ticket);
-            Err(fault)
-        }
-    }
+    journal.commit(ticket).map_err(|Refused { ticket, fault }| {
+        let _ = journal.give_up(ticket);
+        fault
+    })
 }
 
 // A data block as a new operation reads it; nines where it may not.

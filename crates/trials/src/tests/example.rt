@@ -7,7 +7,7 @@ use object::Place;
 use std::process::Abort;
 use std::test::Fail;
 
-// Who makes a step.
+// Who makes a step. The steps themselves are generic in the disk, and so no table can hold them.
 #[derive(Clone, Copy)]
 enum By {
     Logger,
@@ -73,8 +73,8 @@ fn expected(commits: u32) -> [[u8; 512]; 2] {
     let mut high = [0; 512];
     if commits > 0 {
         let long = if commits < 3 { 0x11 } else { 0x33 };
-        low[0..32].copy_from_slice(&[long; 32]);
-        low[32..64].copy_from_slice(&[0x22; 32]);
+        low[0..32].fill(long);
+        low[32..64].fill(0x22);
         high[1] = 2;
     }
     [low, high]

@@ -61,10 +61,7 @@ fn begun<D: Disk>(journal: &mut Journal<D>, number: u32) -> Option<Told> {
 fn begun_beside_one<D: Disk + Drop>(disk: D) -> Result<[Option<Told>; 5], Fault> {
     let mut journal = opened(disk)?;
     let ticket = journal.begin(1)?;
-    let mut answers = [None; 5];
-    for i in 0..5 {
-        answers[i] = begun(&mut journal, i as u32);
-    }
+    let answers = [0, 1, 2, 3, 4].map(|number| begun(&mut journal, number));
     let _ = journal.give_up(ticket);
     Ok(answers)
 }
@@ -95,7 +92,7 @@ fn a_shut_journal_refuses_what_needs_an_open_one(rt: HostRuntime) {
 }
 
 // Objects and lengths of buffers that are refused on a card of 70 blocks with a dead block 67: the object's block, offset and size, the
-// length, and the refusal's number.
+// length, and the refusal's number. Numbers and no `Place`, since a constant cannot call `object`.
 const REFUSED: [(u32, u32, u32, usize, u32); 13] = [
     (64, 0, 0, 1, 14),
     (64, 0, 2, 1, 14),
@@ -130,11 +127,7 @@ fn touched<D: Disk>(
 fn check_refused<D: Disk + Drop>(rt: &impl Abort, disk: D) -> Result<(), Fail> {
     let mut journal = opened(disk)?;
     for (block, offset, size, length, number) in REFUSED {
-        let cause = if number == 20 {
-            Some(DiskFault::Dead(block))
-        } else {
-            None
-        };
+        let cause = (number == 20).then_some(DiskFault::Dead(block));
         let fault = Some((number, Layer::Object, block, cause));
         let found = touched(&mut journal, object(block, offset, size), length);
         assert_eq!(rt; found, Ok(([fault; 2], [7; 512])));

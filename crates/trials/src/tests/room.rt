@@ -28,10 +28,11 @@ fn committed<D: Disk>(journal: &mut Journal<D>, end: u32) -> Result<Result<u64, 
     for block in 65..end {
         let _ = journal.overwrite(&ticket, object(block, 0, 8), &[5]);
     }
-    match journal.commit(ticket) {
-        Ok(position) => Ok(Ok(position)),
-        Err(Refused { ticket, fault }) => Ok(Err(keep(journal, ticket, fault))),
-    }
+    Ok(
+        journal
+            .commit(ticket)
+            .map_err(|Refused { ticket, fault }| keep(journal, ticket, fault)),
+    )
 }
 
 // That opening answers this end, and commits up to these blocks answer as is said beside each.
@@ -50,13 +51,10 @@ fn check_commits<D: Disk + Drop>(
 }
 
 // Makes the header of a card with 55 live positions, all with home 64.
-fn fill_log(bytes: &mut [u8]) {
-    for i in 0..bytes.len() {
-        if i == 0 {
-            bytes[i] = 55;
-        } else if i >= 8 && i < 8 + 4 * 55 && i % 4 == 0 {
-            bytes[i] = 64;
-        }
+fn fill_log(bytes: &mut [u8; 80 * 512]) {
+    bytes[0] = 55;
+    for home in bytes[8..8 + 4 * 55].chunks_exact_mut(4) {
+        home[0] = 64;
     }
 }
 

@@ -49,9 +49,7 @@ fn both<D: Disk>(
 // A block that begins with these two bytes and is zero from there on.
 fn beginning(bytes: [u8; 2]) -> [u8; 512] {
     let mut block = [0; 512];
-    let [first, second] = bytes;
-    block[0] = first;
-    block[1] = second;
+    block[0..2].copy_from_slice(&bytes);
     block
 }
 

@@ -1,4 +1,4 @@
-use Rattle.std.proofs.Common.{is_some, Ok, sym, refl, ap, ◌∙◌, subst}
+use Rattle.std.proofs.Common.{is_some, Ok, Some, sym, refl, ap, ◌∙◌, subst}
 use Rattle.std.proofs.lemmas.Result.{err_from_is_err_and}
 use Rattle.journal_log.specs.View.{view as log_view}
 use Rattle.model.proofs.Calls.{opening_err, opening_ok}
@@ -6,7 +6,7 @@ use Rattle.model.specs.Outcomes.{Outcome}
 use Rattle.model.specs.Journal.{View, opening}
 use Rattle.law.specs.Law.{Lasting}
 use Rattle.law.proofs.Crash.{crash_law}
-use Rattle.journal.specs.View.{view}
+use Rattle.journal.specs.View.{view, opened}
 use Rattle.journal.proofs.Journal.open_card.Goals as goal
 
 pub returns-in_err-log : goal.returns-in_err-log
@@ -25,7 +25,9 @@ returns g c =
     let granted = ap (λ v. opening v d) (sym c.requires) ∙ e in
     record {
       answer = ap Ok c.end-end.ensures ∙ sym (ap (λ o. o.answer) e);
-      state = sym (ap (λ o. o.state) e);
+      state = ap (λ ts. Some (opened c.in_ok-log.log ts)) c.new.ensures ∙ sym (ap (λ o. o.state) e);
       disk = refl;
-      law = subst (λ (o : Outcome View). Lasting o.state o.disk) granted (crash_law d l.end c.«open».ensures.whole (ap (λ o. o.answer) granted));
+      law =
+          subst (λ ts. Lasting (Some (opened c.in_ok-log.log ts)) d) (sym c.new.ensures)
+          (subst (λ (o : Outcome View). Lasting o.state o.disk) granted (crash_law d l.end c.«open».ensures.whole (ap (λ o. o.answer) granted)));
     }

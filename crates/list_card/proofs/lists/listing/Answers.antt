@@ -1,5 +1,6 @@
 use Rattle.std.proofs.Common.{ap, ◌∙◌}
-use Rattle.disk.specs.Plain.{plain_blocks, bytes_of}
+use Rattle.disk.specs.Cards.{bytes_of}
+use Rattle.disk.specs.Plain.{plain_blocks}
 use Rattle.list_card.specs.Listing.{listed}
 use Rattle.list_card.proofs.lists.listing.Goals as goal
 

@@ -11,13 +11,7 @@ old_whole c = rw c.bit_of.ensures (shl_whole (bit_at c.args.byte c.args.k) 1 c.a
 new_whole : (c : goal.After-bit_of) → c.args.value * 2 ^ c.args.k % 256 ≡ c.args.value * 2 ^ c.args.k
 new_whole c = shl_whole c.args.value 1 c.args.k 8 (omega arith) (omega arith)
 
-pub overflow_sub-result : goal.overflow_sub-result
-overflow_sub-result c = rw (old_whole c) (bit_in c.args.byte c.args.k)
-
 pub overflow_add-result : goal.overflow_add-result
 overflow_add-result c =
     let small = with_byte c.args.byte c.args.k c.args.value c.requires.bit c.ranges.byte.fits c.requires.place in
     omega (arith, old_whole c, new_whole c)
-
-pub returns : goal.returns
-returns c = rw (old_whole c, new_whole c)

@@ -1,20 +1,14 @@
-use Rattle.std.proofs.Common.{Ok, sym, ap, ◌∙◌, arith}
+use Rattle.std.proofs.Common.{Ok, sym, ap, ◌∙◌}
 use Rattle.journal_log.specs.View.{view}
 use Rattle.journal_log.proofs.Stepping.{last_is}
 use Rattle.journal.specs.View.{open_view}
-use Rattle.journal.proofs.Operations.{begun_small}
-use Rattle.journal.proofs.Committing.{is_open, room, commits_state, commits_answer}
+use Rattle.journal.proofs.Committing.{room, commits_state, commits_answer}
 use Rattle.journal.proofs.opened.Open.commit.Goals as goal
 
 pub add_all-requires : goal.add_all-requires
 add_all-requires g c =
-    let r = room (open_view c.args.self.now) (g.D.Disk.blocks c.args.disk.now) c.args.number c.as_slice.result.now (ap Ok c.as_slice.ensures ∙ c.in_ok-staged.ensures) in
+    let r = room (open_view c.args.self.now) (g.D.Disk.blocks c.args.disk.now) c.args.number c.as_slice.result.now (ap Ok c.as_slice.ensures.value ∙ c.in_ok-staged.ensures.updates) in
     record { slots = r.0; top = r.1 }
-
-pub close-requires : goal.close-requires
-close-requires g c =
-    let o = c.args.self.now in
-    omega (arith, o.four, begun_small o.operations c.args.number (is_open (open_view o) (g.D.Disk.blocks c.args.disk.now) c.args.number _ c.in_ok-staged.ensures))
 
 pub returns : goal.returns
 returns g c =
@@ -22,7 +16,7 @@ returns g c =
     let d = g.D.Disk.blocks c.args.disk.now in
     let n = c.args.number in
     let vs = c.as_slice.result.now in
-    let ready = ap Ok c.as_slice.ensures ∙ c.in_ok-staged.ensures in
+    let ready = ap Ok c.as_slice.ensures.value ∙ c.in_ok-staged.ensures.updates in
     let l = view c.add_all.new.self in
     let k = open_view c.close.new.self in
     record {

@@ -6,11 +6,6 @@ use Rattle.journal_log.specs.Ring.{rows_from}
 use Rattle.journal_log.proofs.Stepping.{homes_to, homes_more, round_rows}
 use Rattle.journal_log.proofs.state.Log.homes_up_to.Goals as goal
 
-pub loop-p-init : goal.loop-p-init
-loop-p-init c =
-    let l = c.args.self.now in
-    ap (λ (n : ℕ). with_homes l.homes l.end (rows_from l.ring.rows l.end n)) (let e : 0 ≡ l.end - l.end = omega arith in e)
-
 pub loop-p-preserved : goal.loop-p-preserved
 loop-p-preserved c =
     let l = c.args.self.now in

@@ -14,4 +14,4 @@ pub returns : goal.returns
 returns g c =
     let l = c.args.self.now in
     let d = g.D.Disk.blocks c.args.disk.now in
-    step_granted _ _ _ d _ _ _ _ _ _ (home_does l d c.args.round c.requires.round c.at-update.result.now c.requires.more c.at-update.ensures) c.write.ensures.blocks c.write.ensures.writes _ refl c.in_ok-write.ensures.answer
+    step_granted _ _ _ d _ _ _ _ _ _ (home_does l d c.args.round c.requires.round c.at-update.result.now c.requires.more c.at-update.ensures) c.write.ensures.blocks c.write.ensures.writes _ refl c.in_ok-write.ensures.answer c.wrote.result c.wrote.ensures

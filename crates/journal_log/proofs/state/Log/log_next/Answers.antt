@@ -1,4 +1,6 @@
-use Rattle.std.proofs.Common.{refl}
+use Rattle.std.proofs.Common.{ℕ, ◌+◌, ap}
+use Rattle.model.specs.Steps.{frozen_at, logging_at}
+use Rattle.journal_log.specs.View.{view}
 use Rattle.std.proofs.lemmas.Result.{err_from_is_err_and}
 use Rattle.journal_log.proofs.Stepping.{step_refused, step_granted, next_does}
 use Rattle.journal_log.proofs.state.Log.log_next.Goals as goal
@@ -8,10 +10,10 @@ returns-in_err-write g c =
     let l = c.args.self.now in
     let d = g.D.Disk.blocks c.args.disk.now in
     let p = err_from_is_err_and c.from_residual.result c.from_residual.ensures.1 in
-    rw (p.1, p.2) (step_refused _ _ _ d _ _ _ _ _ _ (next_does l d c.args.round c.args.frozen c.requires.round c.log_block-block.result c.at.result.now c.requires.more c.log_block-block.ensures c.at.ensures) c.write.ensures.blocks c.write.ensures.writes _ c.in_err-write.ensures.answer)
+    rw (p.1, p.2) (step_refused _ _ _ d _ _ _ _ _ _ (next_does l d c.args.round c.requires.round c.log_block-block.result c.at.result.now c.requires.more c.log_block-block.ensures c.at.ensures) c.write.ensures.blocks c.write.ensures.writes _ c.in_err-write.ensures.answer)
 
 pub returns : goal.returns
 returns g c =
     let l = c.args.self.now in
     let d = g.D.Disk.blocks c.args.disk.now in
-    step_granted _ _ _ d _ _ _ _ _ _ (next_does l d c.args.round c.args.frozen c.requires.round c.log_block-block.result c.at.result.now c.requires.more c.log_block-block.ensures c.at.ensures) c.write.ensures.blocks c.write.ensures.writes _ refl c.in_ok-write.ensures.answer
+    step_granted _ _ _ d _ _ _ _ _ _ (next_does l d c.args.round c.requires.round c.log_block-block.result c.at.result.now c.requires.more c.log_block-block.ensures c.at.ensures) c.write.ensures.blocks c.write.ensures.writes _ (ap (λ (n : ℕ). logging_at (frozen_at (view l) n) (record { next = c.args.round.next + 1; target = c.args.round.target })) c.max-self.ensures) c.in_ok-write.ensures.answer c.wrote.result c.wrote.ensures

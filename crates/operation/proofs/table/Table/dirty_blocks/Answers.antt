@@ -1,8 +1,12 @@
-use Rattle.std.proofs.Common.{length, ap, ◌∙◌, arith, length-take}
+use Rattle.std.proofs.Common.{sym, ◌∙◌, arith}
+use Rattle.operation.proofs.Listing.{listed_longer, listed_more}
 use Rattle.operation.proofs.table.Table.dirty_blocks.Goals as goal
 
-pub blocks_of-requires : goal.blocks_of-requires
-blocks_of-requires c =
-    let s = c.args.self.now in
-    let n = ap length c.entries.ensures ∙ length-take s.len s.held.items in
-    omega arith
+pub loop-held-preserved : goal.loop-held-preserved
+loop-held-preserved c =
+    let hs = c.entries-held-items.result.now in
+    let bs = c.loop-held.blocks.items in
+    let cs = c.list.new.blocks.items in
+    let at = c.held-item.is in
+    let n = listed_longer hs c.loop-held.held-index c.held-item.result at bs cs c.list.ensures in
+    (omega arith, sym (listed_more hs c.loop-held.held-index c.held-item.result at bs cs c.list.ensures c.loop-held-test.true) ∙ c.loop-held.invariant.1)

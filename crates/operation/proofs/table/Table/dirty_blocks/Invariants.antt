@@ -1,0 +1,8 @@
+use Rattle.std.proofs.Common.{◌≡◌, ◌≤◌, [], ◌++◌, length, drop}
+use Rattle.model.specs.Operations.{dirty_blocks}
+use Rattle.operation.proofs.table.Table.dirty_blocks.Given as goal
+
+abbrev pub invariant-loop-held : goal.invariant-loop-held
+invariant-loop-held l =
+    (length l.blocks.items ≤ l.held-index) ×
+    (l.blocks.items ++ dirty_blocks (drop l.held-index l.held-items) l.blocks.items ≡ dirty_blocks l.self [])
