@@ -108,23 +108,15 @@ fn beginning_with(number: u64) -> [u8; BLOCK]
     block
 }
 
-// The bytes of block 0 with this end and these home numbers.
-fn header_bytes(end: u64, homes: &[u32; SLOTS]) -> [u8; BLOCK]
-    ensures bytes { result ≡ header_block (record { end = end; homes = homes.now }) }
-    ensures decodes { header_in result ≡ record { end = end; homes = homes.now } }
-{
-    let mut block = beginning_with(end);
-    block[8..HEADER_END].copy_from_slice(homes.map(home_bytes).as_flattened());
-    block
-}
-
 impl Header {
     // The bytes of block 0.
     pub fn encode(&self) -> [u8; BLOCK]
         ensures bytes { result ≡ header_block self.now }
         ensures decodes { header_in result ≡ self.now }
     {
-        header_bytes(self.end, &self.homes)
+        let mut block = beginning_with(self.end);
+        block[8..HEADER_END].copy_from_slice(self.homes.map(home_bytes).as_flattened());
+        block
     }
 
     // What the bytes of block 0 say.

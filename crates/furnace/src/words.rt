@@ -12,7 +12,7 @@ pub fn word_at(bytes: &[u8], i: usize) -> u16
     u16::from_le_bytes([bytes[2 * i], bytes[2 * i + 1]])
 }
 
-// The bytes of N numbers, two of each.
+// The bytes of N numbers, two of each, made by index, as they are read back.
 pub fn word_bytes<const N: usize, const B: usize>(words: &[u16; N]) -> [u8; B]
     requires { B ≡ 2 * N }
     ensures { words_in result N ≡ words.now }

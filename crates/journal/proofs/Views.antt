@@ -1,6 +1,6 @@
 -- A journal is open or shut, and its calls go by that.
-use Rattle.std.proofs.Common.{◌≡◌, ℕ, false, is_some, Some, None, Option, sym, refl, ap, subst, arith}
-use Rattle.std.specs.Option.{option_map}
+use Rattle.std.proofs.Common.{◌≡◌, ℕ, false, is_some, Some, None, Ok, Option, Bor, sym, refl, ap, subst, arith}
+use Rattle.std.specs.Option.{option_map, ok_or}
 use Rattle.disk.specs.Meaning.{Blocks}
 use Rattle.model.specs.declared.Fault.TheVariants.{Shut}
 use Rattle.model.specs.Outcomes.{refused_by, within}
@@ -27,3 +27,8 @@ module _ (c : Call) (s : Option Open) (d : Blocks) where
 
   pub while_open : (o : Open) → Some o ≡ s → outcome c (option_map open_view s) d ≡ within Some (called c (open_view o) d)
   while_open o e = ap (λ x. outcome c (option_map open_view x) d) (sym e)
+
+-- what is taken out of an option is what it held
+pub table_taken : {T F : Type 0} (r : Option (Bor T)) (f : F) (x : Bor T) → Ok x ≡ ok_or r f → Some x.now ≡ option_map (λ y. y.now) r
+table_taken None f x e = let z : ◌≡◌ {A = ℕ} 0 1 = cc in absurd (omega arith)
+table_taken (Some y) f x e = let g : x ≡ y = cc in ap (λ w. Some w.now) g

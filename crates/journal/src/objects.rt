@@ -1,8 +1,8 @@
 // Reads and overwrites by one operation. A value is looked for in the operation's table, then in the log, then at home; the disk is
 // asked only where it is in neither of the first two.
 //
-// That a place lies inside the disk is asked by three functions here: it is a fact of a place and a disk together, which no field of
-// either could hold.
+// That a place lies inside the disk is asked by three functions here. It is a fact of a place and a disk together: a struct of both
+// would be made in each call and taken apart at once, and is no plainer.
 ghost use Rattle.std.specs.Prelude.{◌≡◌, ◌<◌, true, false, not, length, [], Some, None, MatchResult, OnOk, nat_le};
 ghost use Rattle.std.specs.Option.{unwrap_or};
 ghost use Rattle.disk.specs.Tests.{first_of, unless, both};
@@ -95,7 +95,9 @@ impl<'a, D: Disk> Newest<'a, D> {
         table.overwrite(Held::written(spot, bytes));
         Ok(place.width())
     }
-    // A read by the operation in this slot, if one is open there.
+
+    // A read by the operation in this slot, if one is open there. The whole look-up is one chain of `let .. else` and `if let`: the slot,
+    // the held table, the log; then the disk.
     pub(crate) fn read_in(
         &self,
         slot: &mut Option<Table>,
@@ -106,7 +108,9 @@ impl<'a, D: Disk> Newest<'a, D> {
         ensures buffer { buf.new ≡ unless (read_by (log_view self.now.log.now) (D.Disk.blocks self.now.disk.now) place slot.old (length buf.old)) (seen_by (log_view self.now.log.now) (D.Disk.blocks self.now.disk.now) place (unwrap_or slot.old [])) buf.old }
         ensures slot { slot.new ≡ unless (read_by (log_view self.now.log.now) (D.Disk.blocks self.now.disk.now) place slot.old (length buf.old)) (Some (read_into (log_view self.now.log.now) (D.Disk.blocks self.now.disk.now) place (unwrap_or slot.old []))) slot.old }
     {
-        let table = slot.as_mut().ok_or(Fault::Ticket)?;
+        let Some(table) = slot.as_mut() else {
+            return Err(Fault::Ticket);
+        };
         self.read_by(table, place, buf)
     }
 
@@ -120,7 +124,9 @@ impl<'a, D: Disk> Newest<'a, D> {
         ensures answer { result ≡ value_unless (overwritten_by (log_view self.now.log.now) (D.Disk.blocks self.now.disk.now) place slot.old bytes.now) (width place.size) }
         ensures slot { slot.new ≡ unless (overwritten_by (log_view self.now.log.now) (D.Disk.blocks self.now.disk.now) place slot.old bytes.now) (Some (holding (unwrap_or slot.old []) (record { place = place; bytes = bytes.now; dirty = true }))) slot.old }
     {
-        let table = slot.as_mut().ok_or(Fault::Ticket)?;
+        let Some(table) = slot.as_mut() else {
+            return Err(Fault::Ticket);
+        };
         self.overwrite_by(table, place, bytes)
     }
 }

@@ -1,5 +1,5 @@
 // The operations of an open journal: what each holds, where it is open.
-ghost use Rattle.std.specs.Prelude.{◌≡◌, ◌<◌, true, is_some, replicate, IfSome, slice_set, slice_index_or, None};
+ghost use Rattle.std.specs.Prelude.{◌≡◌, is_some, replicate, slice_set, slice_index_or, None};
 ghost use Rattle.std.specs.Option.{option_map};
 ghost use Rattle.model.specs.Calls.{called, reads, overwrites};
 ghost use Rattle.journal.specs.View.{opened};
@@ -44,30 +44,29 @@ impl Operations {
 
     // What the operation with this number holds, if it is open.
     pub(crate) fn table(&self, number: u32) -> Option<&Table>
-        ensures value { option_map (λ t. t.now) result ≡ slice_index_or self.now number None }
-        ensures small { IfSome result (λ _. number < 4) }
+        ensures { option_map (λ t. t.now) result ≡ slice_index_or self.now number None }
     {
         self.tables.get(number as usize)?.as_ref()
     }
 
     // Whether the operation with this number is open.
     pub(crate) fn is_begun(&self, number: u32) -> bool
-        ensures value { result ≡ is_some (slice_index_or self.now number None) }
-        ensures small { result ≡ true → number < 4 }
+        ensures { result ≡ is_some (slice_index_or self.now number None) }
     {
-        (number as usize) < OPERATIONS && self.tables[number as usize].is_some()
+        self.table(number).is_some()
     }
 
-    // The operation with this number holds this, or is not open.
+    // The operation with this number, if there is one, holds this, or is not open.
     pub(crate) fn set(&mut self, number: u32, table: Option<Table>)
-        requires { number < 4 }
         ensures { self.new ≡ slice_set self.old number table }
     {
-        self.tables[number as usize] = table;
+        if (number as usize) < OPERATIONS {
+            self.tables[number as usize] = table;
+        }
     }
 
-    // A read by the operation with this number. Log and disk come one by one, here and below: the borrow checker does not follow two
-    // fields of a journal that are lent into one struct.
+    // A read by the operation with this number. Two things that were tried, here and below, the borrow checker does not follow yet: log
+    // and disk in one struct, lent out of one journal; and what is known of the table that `get_mut` lends.
     pub(crate) fn read<D: Disk>(
         &mut self,
         log: &Log,

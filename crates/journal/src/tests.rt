@@ -2,8 +2,8 @@
 use crate::*;
 use disk::{DiskFault, Layer, MarkedCard, PlainCard};
 
-// A disk of one's own: one that remembers the blocks of its last two writes. `trials` has its like, which cannot be used here, since
-// `trials` stands on this crate.
+// A disk of one's own: one that remembers the blocks of its last two writes, 9 and 9 before the first. `trials` has its like, and what
+// follows here, and stands on this crate, so nothing of it can be used; the tests of a crate stay beside it.
 #[derive(Drop)]
 struct Traced<D: Disk> {
     disk: D,

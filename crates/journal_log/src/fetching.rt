@@ -16,7 +16,8 @@ pub(crate) fn fetch<D: Disk>(disk: &D, block: u32) -> Result<[u8; BLOCK], DiskFa
     Ok(bytes)
 }
 
-// There are enough blocks, and those below the data blocks are live.
+// There are enough blocks, and those below the data blocks are live. That a card is ready so is asked by three functions after this: no
+// value can keep it that lends the disk, since format goes on to write to it.
 pub(crate) fn check_card<D: Disk>(disk: &D) -> Result<(), LogFault>
     ensures checked { CardChecked (D.Disk.blocks disk.now) result }
     ensures whole { Whole (D.Disk.blocks disk.now) }

@@ -17,6 +17,7 @@ impl Ring {
     pub(crate) fn new() -> Ring
         ensures { result.rows ≡ replicate 62 blank }
     {
+        // written out: `Update::default` was tried, and its zeros take a proof of their own
         let row = Update {
             home: 0,
             bytes: [0; BLOCK],

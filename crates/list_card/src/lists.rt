@@ -34,6 +34,7 @@ fn live_homes(log: &Log) -> Live
 {
     let start = log.start();
     let end = log.end();
+    // pushed one by one, since `collect` answers a Result
     let mut homes = ArrayVec::new();
     for position in start..end {
         if let Some(home) = log.home_at(position) {
@@ -79,20 +80,14 @@ impl Summary {
     pub fn refusal(&self) -> u32
         ensures { result ≡ (told self.now).refusal }
     {
-        match &self.found {
-            Ok(_) => 0,
-            Err(fault) => fault.number(),
-        }
+        self.found.as_ref().err().map_or(0, |fault| fault.number())
     }
 
     // The block that the refusal is about, or 0.
     pub fn place(&self) -> u32
         ensures { result ≡ (told self.now).place }
     {
-        match &self.found {
-            Ok(_) => 0,
-            Err(fault) => fault.place(),
-        }
+        self.found.as_ref().err().map_or(0, |fault| fault.place())
     }
 }
 

@@ -48,6 +48,7 @@ pub enum Fault {
     Object(ObjectFault),
 }
 
+// Written out, as the two below, since clauses name the fault that a `?` makes.
 impl From<DiskFault> for LogFault {
     ghost from_gives = { λ e r. r ≡ Dead e };
 

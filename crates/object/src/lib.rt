@@ -39,6 +39,7 @@ pub enum ObjectFault {
     DeadBlock(DiskFault),
 }
 
+// Written out, since clauses name the fault that a `?` makes.
 impl From<DiskFault> for ObjectFault {
     ghost from_gives = { λ e r. r ≡ DeadBlock e };
 

@@ -138,6 +138,8 @@ impl Table {
     }
 }
 
+// Searches of what is held. They take a slice, since the check follows a chain over one, and not over what a table lends.
+
 // Whether the object is one of these.
 fn is_held(held: &[Held], place: &Place) -> bool
     ensures { result ≡ list_any (λ h. same h.place place.now) held.now }

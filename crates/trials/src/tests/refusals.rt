@@ -92,7 +92,7 @@ fn a_shut_journal_refuses_what_needs_an_open_one(rt: HostRuntime) {
 }
 
 // Objects and lengths of buffers that are refused on a card of 70 blocks with a dead block 67: the object's block, offset and size, the
-// length, and the refusal's number. Numbers and no `Place`, since a constant cannot call `object`.
+// length, and the refusal's number. Numbers: thirteen `Place { .. }` written out are no plainer, and a constant cannot call `object`.
 const REFUSED: [(u32, u32, u32, usize, u32); 13] = [
     (64, 0, 0, 1, 14),
     (64, 0, 2, 1, 14),
@@ -147,8 +147,8 @@ fn objects_that_are_refused(rt: HostRuntime) -> Result<(), Fail> {
 fn beyond_eight<D: Disk + Drop>(disk: D) -> Result<([Option<Told>; 4], [u8; 1]), Fault> {
     let mut journal = opened(disk)?;
     let ticket = journal.begin(0)?;
-    for i in 0..8 {
-        let _ = journal.overwrite(&ticket, object(64, 8 * i, 8), &[5]);
+    for offset in (0..64).step_by(8) {
+        let _ = journal.overwrite(&ticket, object(64, offset, 8), &[5]);
     }
     let mut buf = [7];
     let ninth = told(journal.read(&ticket, object(65, 0, 8), &mut buf));
