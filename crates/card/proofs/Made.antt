@@ -1,38 +1,25 @@
--- Arrays that a function fills: by the index, or from another array.
-use Rattle.std.proofs.Common.{◌≡◌, ℕ, zero, suc, ◌+◌, ◌<◌, ◌≤◌, List, map, length, get_or, sym, ap, ◌∙◌, subst, ⊎_elim, arith}
-use Rattle.std.specs.Array.{IsFromFnResultFrom, IsFromFnResult, MapsFrom, IsMapOf}
+-- Arrays that `array::from_fn` makes, by a closure that changes no capture.
+use Rattle.std.proofs.Common.{◌≡◌, ℕ, zero, suc, ◌+◌, ◌<◌, ◌≤◌, List, map, get_or, refl, sym, subst, ⊎_elim, arith}
+use Rattle.std.specs.Fn.{Mut, Called}
+use Rattle.std.specs.Array.{IsFromFnResult, IsFromFnResultFrom}
 use Rattle.std.specs.List.{range_with_len}
-use Rattle.std.proofs.lemmas.Bool.{cases_eq}
-use Rattle.std.proofs.lemmas.List.{same_lists, get_or-map, length-map}
 use Rattle.std.proofs.lemmas.List.FromFn.{fill_by_all}
-use denote.Param.Members.{Mut, Called}
+use Rattle.std.proofs.lemmas.Bool.{cases_eq}
 
--- each call gives h of the index, and leaves the closure as it was
-module _ {F B : Type 0} (g : Mut F (ℕ × Unit {0}) B) (f : F) (h : ℕ → B) (does : (i : ℕ) (y : B) (q : F) → Called g f (i, tt) y q → (q ≡ f) × (y ≡ h i)) (ys : List B) where
-  made_from : (i n : ℕ) → IsFromFnResultFrom g f ys i n → (k : ℕ) (d : B) → i ≤ k → k < i + n → get_or ys k d ≡ h k
-  made_from i zero r k d a b = absurd (omega arith)
-  made_from i (suc n) r k d a b =
-      let c = does i r.1 r.0 r.3 in
-      ⊎_elim
-      (λ (same : k ≡ i). ap (λ (j : ℕ). get_or ys j d) same ∙ r.2.1 d ∙ c.1 ∙ ap h (sym same))
-      (λ ne. made_from (i + 1) n (subst (λ (p : F). IsFromFnResultFrom g p ys (i + 1) n) c.0 r.4) k d (omega arith) (omega arith))
-      (cases_eq k i)
+module _ {F B : Type 0} (g : Mut F (ℕ × Unit {0}) B) (f : F) (n : ℕ) where
+  -- what each call says of the value at its index
+  module _ (P : ℕ → B → Type 0) (gives : (i : ℕ) (y : B) (q : F) → i < n → Called g f (i, tt) y q → P i y × (q ≡ f)) where
+    from_there : (ys : List B) (d : B) (p : F) (i m : ℕ) → p ≡ f → i + m ≤ n → IsFromFnResultFrom g p ys i m → (k : ℕ) → i ≤ k → k < i + m → P k (get_or ys k d)
+    from_there ys d p i zero e r t k a b = absurd (omega (arith, a, b))
+    from_there ys d p i (suc m) e r t k a b =
+        let here = gives i t.1 t.0 (omega (arith, r)) (subst (λ s. Called g s (i, tt) t.1 t.0) e t.3) in
+        ⊎_elim
+        (λ same. subst (λ (j : ℕ). P j (get_or ys j d)) (sym same) (subst (P i) (sym (t.2.1 d)) here.0))
+        (λ ne. from_there ys d t.0 (i + 1) m here.1 (omega (arith, r)) t.4 k (omega (arith, a, ne)) (omega (arith, b)))
+        (cases_eq k i)
 
-  pub made_by : (n : ℕ) → B → IsFromFnResult g f ys n → ys ≡ map h (range_with_len 0 n)
-  made_by n d r = fill_by_all h ys n d r.long (λ k l. made_from 0 n r.each k d (omega arith) (omega arith))
+    pub made_at : (ys : List B) (d : B) → IsFromFnResult g f ys n → (k : ℕ) → k < n → P k (get_or ys k d)
+    made_at ys d r k lt = from_there ys d f 0 n refl (omega arith) r.each k (omega arith) (omega (arith, lt))
 
--- each call gives h of the element, and leaves the closure as it was
-module _ {F A B : Type 0} (g : Mut F (A × Unit {0}) B) (f : F) (h : A → B) (does : (x : A) (y : B) (q : F) → Called g f (x, tt) y q → (q ≡ f) × (y ≡ h x)) (xs : List A) (ys : List B) where
-  mapped_from : (i n : ℕ) → MapsFrom g f xs ys i n → (k : ℕ) (d : A) (e : B) → i ≤ k → k < i + n → get_or ys k e ≡ h (get_or xs k d)
-  mapped_from i zero r k d e a b = absurd (omega arith)
-  mapped_from i (suc n) r k d e a b =
-      let c = does r.1 r.2 r.0 r.5 in
-      ⊎_elim
-      (λ (same : k ≡ i). ap (λ (j : ℕ). get_or ys j e) same ∙ r.4.1 e ∙ c.1 ∙ ap h (sym (ap (λ (j : ℕ). get_or xs j d) same ∙ r.3.1 d)))
-      (λ ne. mapped_from (i + 1) n (subst (λ (p : F). MapsFrom g p xs ys (i + 1) n) c.0 r.6) k d e (omega arith) (omega arith))
-      (cases_eq k i)
-
-  pub mapped_by : (n : ℕ) → A → length xs ≡ n → IsMapOf g f xs ys n → ys ≡ map h xs
-  mapped_by n a l r =
-      same_lists ys (map h xs) (r.long ∙ sym (length-map xs h ∙ l))
-      (λ k e m. mapped_from 0 n r.each k a e (omega arith) (omega (arith, r.long)) ∙ sym (get_or-map h xs k a e (omega (arith, r.long))))
+  pub made : (h : ℕ → B) (ys : List B) → IsFromFnResult g f ys n → ((i : ℕ) (y : B) (q : F) → i < n → Called g f (i, tt) y q → (y ≡ h i) × (q ≡ f)) → ys ≡ map h (range_with_len 0 n)
+  made h ys r gives = fill_by_all h ys n (h 0) r.long (made_at (λ i y. y ≡ h i) gives ys (h 0) r)

@@ -1,7 +1,9 @@
 // The blocks of the card: where things lie, and the bytes of the two blocks that hold positions.
 #![tactic(auto)]
 
-ghost use Rattle.std.specs.Prelude.{◌≡◌, ℕ, ◌^◌, ◌+◌, ◌<◌, ◌≤◌, map, length, take, drop, slice_index};
+ghost use Rattle.std.specs.Prelude.{◌≡◌, ℕ, ◌^◌, ◌+◌, ◌<◌, ◌≤◌, map, length, take, drop, replicate, slice_index};
+ghost use Rattle.std.specs.List.{flat_map};
+ghost use Rattle.disk.specs.Meaning.{block_size};
 ghost use Rattle.card.specs.Bytes.{all_zero, field, to_bytes, from_bytes};
 ghost use Rattle.card.specs.Layout.{slots, slot as slot_of, log_block, homes_in, header_block, start_block, header_in, start_in, home_in, SlotsDiffer};
 
@@ -30,10 +32,22 @@ pub struct Header {
 }
 
 // A home's new bytes, on the way there.
-#[derive(Clone, Copy, Default)]
+#[derive(Clone, Copy)]
 pub struct Update {
     pub home: u32,
     pub bytes: [u8; BLOCK],
+}
+
+// Zeros, for the empty places of a list. By hand: a derived one fills the bytes one by one.
+impl Default for Update {
+    ghost is_default = { λ update. update ≡ record { home = 0; bytes = replicate block_size 0 } };
+
+    fn default() -> Update {
+        Update {
+            home: 0,
+            bytes: [0; BLOCK],
+        }
+    }
 }
 
 // How many positions have slots of their own: any that are less than that apart.
@@ -108,15 +122,35 @@ fn beginning_with(number: u64) -> [u8; BLOCK]
     block
 }
 
+// The bytes of home numbers. By index: a `map` over the array was tried, and took fourteen times as long.
+fn home_cells(homes: &[u32; SLOTS]) -> [[u8; 4]; SLOTS]
+    ensures { flat_map (λ bytes. bytes) result ≡ flat_map (to_bytes 4) homes.now }
+{
+    array::from_fn(
+        |slot| -> [u8; 4]
+            requires { slot < slots }
+            ensures { result ≡ to_bytes 4 (slice_index homes.entry.now slot) }
+        { home_bytes(homes[slot]) },
+    )
+}
+
+// The bytes of block 0 with this end and these home numbers.
+fn header_bytes(end: u64, homes: &[u32; SLOTS]) -> [u8; BLOCK]
+    ensures bytes { result ≡ header_block (record { end = end; homes = homes.now }) }
+    ensures decodes { header_in result ≡ record { end = end; homes = homes.now } }
+{
+    let mut block = beginning_with(end);
+    block[8..HEADER_END].copy_from_slice(home_cells(homes).as_flattened());
+    block
+}
+
 impl Header {
     // The bytes of block 0.
     pub fn encode(&self) -> [u8; BLOCK]
         ensures bytes { result ≡ header_block self.now }
         ensures decodes { header_in result ≡ self.now }
     {
-        let mut block = beginning_with(self.end);
-        block[8..HEADER_END].copy_from_slice(self.homes.map(home_bytes).as_flattened());
-        block
+        header_bytes(self.end, &self.homes)
     }
 
     // What the bytes of block 0 say.

@@ -6,12 +6,11 @@ use Rattle.model.specs.Journal.{Open}
 use Rattle.model.specs.Calls.{held_by}
 use Rattle.model.specs.Operations.{dirty_blocks}
 use Rattle.journal_log.specs.Updates.{update_for}
-use Rattle.arrayvec.specs.ArrayVec.{ArrayVec}
 
--- the updates made ready, in order
-abbrev pub staged_as : {F : Type 0} → Result (ArrayVec Update) F → Result (List Update) F
-staged_as (Ok s) = Ok s.items
-staged_as (Err f) = Err f
+-- the updates staged, where all were granted
+abbrev pub staged_as : {X F : Type 0} → Result X F → List Update → Result (List Update) F
+staged_as (Ok x) us = Ok us
+staged_as (Err f) us = Err f
 
 -- those of a commit: one for each dirty block
 abbrev pub updates_of : Open → Blocks → ℕ → List Update

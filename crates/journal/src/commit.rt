@@ -14,16 +14,13 @@ ghost use Rattle.journal.specs.View.{view, open_view, committed_as, HandsBack};
 use crate::Journal;
 use crate::objects::Newest;
 use crate::opened::Open;
+use crate::staged::Staged;
 use crate::ticket::{Refused, Ticket};
-use arrayvec::ArrayVec;
 use card::Update;
 use disk::{Disk, DiskFault};
 use model::Fault;
 use object::ObjectFault;
-use operation::{MOST_HELD, Table};
-
-// The updates that a commit is to add: at most as many as an operation holds objects.
-type Staged = ArrayVec<Update, MOST_HELD>;
+use operation::Table;
 
 impl<D: Disk> Journal<D> {
     // Commits the operation: its dirty objects become updates of the log, together. Answers the operation's position. Refused, it hands
@@ -53,9 +50,10 @@ impl<D: Disk> Journal<D> {
 }
 
 impl Open {
-    // Tests all that a commit tests, and makes its updates ready. Nothing is changed yet.
-    fn prepare<D: Disk>(&self, disk: &D, number: u32) -> Result<Staged, Fault>
-        ensures { staged_as result ≡ value_unless (first_of (tests_of (commits number) (open_view self.now) (D.Disk.blocks disk.now))) (updates_of (open_view self.now) (D.Disk.blocks disk.now) number) }
+    // Tests all that a commit tests, and stages its updates. Nothing is changed yet.
+    fn prepare<D: Disk>(&self, disk: &D, number: u32, staged: &mut Staged) -> Result<(), Fault>
+        requires { staged.old ≡ [] }
+        ensures { staged_as result staged.new ≡ value_unless (first_of (tests_of (commits number) (open_view self.now) (D.Disk.blocks disk.now))) (updates_of (open_view self.now) (D.Disk.blocks disk.now) number) }
     {
         let table = self.operations.table(number).ok_or(Fault::Ticket)?;
         let dirty = table.dirty_blocks();
@@ -65,15 +63,16 @@ impl Open {
             log: &self.log,
             disk,
         };
-        let staged = newest.stage(table, blocks)?;
-        Ok(staged)
+        newest.stage(table, blocks, staged)?;
+        Ok(())
     }
 
     fn commit<D: Disk>(&mut self, disk: &D, number: u32) -> Result<u64, Fault>
         ensures answer { result ≡ (called (commits number) (open_view self.old) (D.Disk.blocks disk.now)).answer }
         ensures state { open_view self.new ≡ (called (commits number) (open_view self.old) (D.Disk.blocks disk.now)).state }
     {
-        let staged = self.prepare(disk, number)?;
+        let mut staged = Staged::new();
+        self.prepare(disk, number, &mut staged)?;
         self.log.add_all(staged.as_slice());
         self.close(number);
         Ok(self.log.last())
@@ -94,15 +93,15 @@ impl<'a, D: Disk> Newest<'a, D> {
         Ok(Update { home: block, bytes })
     }
 
-    // The updates of dirty blocks. Nothing is changed yet.
-    fn stage(&self, table: &Table, blocks: &[u32]) -> Result<Staged, ObjectFault>
-        requires { length blocks.now ≤ 8 }
-        ensures { as_fault (staged_as result) ≡ value_unless (first_of (bytes_tests (log_view self.now.log.now) (D.Disk.blocks self.now.disk.now) blocks.now)) (map (update_for table.now (D.Disk.blocks self.now.disk.now) (log_view self.now.log.now).updates) blocks.now) }
+    // Stages the updates of dirty blocks. Nothing is changed yet.
+    fn stage(&self, table: &Table, blocks: &[u32], staged: &mut Staged) -> Result<(), ObjectFault>
+        requires few { length blocks.now ≤ 8 }
+        requires none { staged.old ≡ [] }
+        ensures { staged_as (as_fault result) staged.new ≡ value_unless (first_of (bytes_tests (log_view self.now.log.now) (D.Disk.blocks self.now.disk.now) blocks.now)) (map (update_for table.now (D.Disk.blocks self.now.disk.now) (log_view self.now.log.now).updates) blocks.now) }
     {
-        let mut staged = Staged::new();
         for block in blocks {
             staged.push(self.update_for(table, *block)?);
         }
-        Ok(staged)
+        Ok(())
     }
 }

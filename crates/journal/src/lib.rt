@@ -15,6 +15,7 @@ mod commit;
 mod objects;
 mod opened;
 mod operations;
+mod staged;
 mod steps;
 #[cfg(test)]
 mod tests;

@@ -54,9 +54,8 @@ impl<'a, D: Disk> Newest<'a, D> {
             return Ok(());
         }
         let block = self.bytes(place.block)?;
-        let held = Held::read(spot, &block);
-        buf.copy_from_slice(held.value());
-        table.add(held);
+        spot.take(&block, buf);
+        table.add(Held::read(spot, &block));
         Ok(())
     }
 
@@ -92,7 +91,7 @@ impl<'a, D: Disk> Newest<'a, D> {
         let spot = check_place(self.disk, place, bytes.len())?;
         check_bit(place, bytes)?;
         self.check_held(table, place)?;
-        table.overwrite(Held::written(spot, bytes));
+        table.overwrite(spot, bytes);
         Ok(place.width())
     }
 

@@ -38,7 +38,7 @@ impl Operations {
         ensures { result ≡ replicate 4 None }
     {
         Operations {
-            tables: [None, None, None, None],
+            tables: [None; OPERATIONS],
         }
     }
 

@@ -1,5 +1,5 @@
 -- What a listing says, and what it has to say of a card.
-use Rattle.std.specs.Prelude.{ℕ, ◌-◌, List, map, length, Some, None, Ok, Err, Option, Result}
+use Rattle.std.specs.Prelude.{ℕ, ◌-◌, List, map, length, take, Some, None, Ok, Err, Option, Result}
 use Rattle.std.specs.Option.{option_map}
 use Rattle.disk.specs.Meaning.{Blocks}
 use Rattle.card.specs.declared.Update.{Update}
@@ -23,7 +23,7 @@ pub record Fields : Type 0 where
   pub live : Option Lives
 
 abbrev pub live_told : Live → Lives
-live_told l = (l.start, l.end, l.homes.items)
+live_told l = (l.start, l.end, take (l.end - l.start) l.homes)
 
 abbrev pub told_of : ℕ → Result Live Fault → Fields
 told_of n (Ok l) = record { blocks = n; refusal = 0; place = 0; live = Some (live_told l) }

@@ -5,7 +5,6 @@ ghost use Rattle.journal.specs.View.{view};
 ghost use Rattle.model.specs.Journal.{shut};
 ghost use Rattle.list_card.specs.Listing.{told, told_of, listed, row_homes, live_told};
 
-use arrayvec::ArrayVec;
 use card::SLOTS;
 use disk::{Disk, PlainCard};
 use journal::Journal;
@@ -13,12 +12,12 @@ use journal_log::Log;
 use model::Fault;
 use std::fmt;
 
-// The live positions and their homes.
-#[derive(Drop)]
+// The live positions and their homes: an array, so that they can be copied, with as many homes as there are positions, and then zeros.
+#[derive(Clone, Copy)]
 pub struct Live {
     start: u64,
     end: u64,
-    homes: ArrayVec<u32, SLOTS>,
+    homes: [u32; SLOTS],
 }
 
 // How many blocks a card has, and what opening finds on it.
@@ -34,12 +33,9 @@ fn live_homes(log: &Log) -> Live
 {
     let start = log.start();
     let end = log.end();
-    // pushed one by one, since `collect` answers a Result
-    let mut homes = ArrayVec::new();
-    for position in start..end {
-        if let Some(home) = log.home_at(position) {
-            homes.push(home);
-        }
+    let mut homes = [0; SLOTS];
+    for p in start..end {
+        homes[(p - start) as usize] = log.home_at(p).unwrap_or(0);
     }
     Live { start, end, homes }
 }
@@ -95,7 +91,8 @@ impl fmt::Display for Live {
     fn fmt<W: fmt::Write>(&self, f: &mut fmt::Formatter<W>) -> fmt::Result {
         let Live { start, end, homes } = self;
         write!(f, "start={start}\nend={end}\nhomes=")?;
-        for (i, home) in homes.iter().enumerate() {
+        let count = end.saturating_sub(*start) as usize;
+        for (i, home) in homes.iter().take(count).enumerate() {
             if i > 0 {
                 write!(f, ",")?;
             }

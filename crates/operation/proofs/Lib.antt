@@ -1,3 +1,4 @@
 pub mod Zeros
 pub mod Tables
 pub mod Listing
+pub mod Padding

@@ -1,9 +1,8 @@
 -- What a table answers, as searches of its objects.
-use Rattle.std.proofs.Common.{◌≡◌, ℕ, zero, suc, ◌<◌, ◌≤◌, Bool, true, false, cond, not, ◌||◌, eqb, leb, List, [], ◌∷◌, ◌++◌, length, get_or, drop, set, Some, None, Option, sym, refl, ap, subst, ◌∙◌, ⊎_elim, arith}
-use Rattle.std.specs.List.{list_any, find, position, position_or_len, refill}
+use Rattle.std.proofs.Common.{◌≡◌, ℕ, zero, suc, ◌<◌, ◌≤◌, Bool, true, false, cond, not, ◌||◌, eqb, leb, List, [], ◌∷◌, ◌++◌, length, get_or, set, Some, None, Option, sym, refl, ap, subst, ◌∙◌, ⊎_elim, arith}
+use Rattle.std.specs.List.{list_any, find, position, position_or_len}
 use Rattle.std.specs.Option.{option_map}
 use Rattle.std.proofs.lemmas.Bool.{cases_Bool, ltb-false, leb-false, ne_eqb, eq-eqb, cases_eq}
-use Rattle.std.proofs.lemmas.List.{take_at}
 use Rattle.std.proofs.lemmas.List.Quantifiers.{position-Some}
 use Rattle.disk.specs.Tests.{both, either}
 use Rattle.object.specs.declared.Place.{Place}
@@ -16,7 +15,7 @@ either_or : (a b : Bool) → either a b ≡ (a || b)
 either_or true b = refl
 either_or false b = refl
 
-in_any : (hs : List Held) (o : Place) → is_in hs o ≡ list_any (λ h. same h.place o) hs
+pub in_any : (hs : List Held) (o : Place) → is_in hs o ≡ list_any (λ h. same h.place o) hs
 in_any [] o = refl
 in_any (h ∷ hs) o = either_or (same h.place o) (is_in hs o) ∙ ap (λ b. same h.place o || b) (in_any hs o)
 
@@ -69,10 +68,6 @@ pub among_any : (b : ℕ) (bs : List ℕ) → among b bs ≡ list_any (λ c. eqb
 among_any b [] = refl
 among_any b (c ∷ cs) = either_or (eqb b c) (among b cs) ∙ ap (λ t. t || among b cs) (eqb_swap b c) ∙ ap (λ t. eqb c b || t) (among_any b cs)
 
--- a list written back at its own length
-pub filled : {X : Type 0} (xs ys : List X) → length ys ≡ length xs → refill (length xs) xs ys ≡ ys
-filled xs ys e = take_at ys (drop (length ys) xs) (length xs) e
-
 found : {X : Type 0} (p : X → Bool) (xs : List X) (x : X) → find p xs ≡ Some x → p x ≡ true
 found p [] x e = absurd (let z : ◌≡◌ {A = ℕ} 0 1 = cc in omega arith)
 found p (y ∷ ys) x e = ⊎_elim
@@ -82,9 +77,6 @@ found p (y ∷ ys) x e = ⊎_elim
 
 -- what searches of the entries tell, where the entries are the objects held
 module _ (hs es : List Held) (is : es ≡ hs) where
-  pub in_told : (o : Place) (r : Bool) → r ≡ list_any (λ h. same h.place o) es → is_in hs o ≡ r
-  in_told o r e = in_any hs o ∙ sym (e ∙ ap (list_any (λ h. same h.place o)) is)
-
   pub clash_told : (o : Place) (r : Bool) → r ≡ list_any (λ h. both (overlap h.place o) (not (eqb h.place.size o.size))) es → clashes hs o ≡ r
   clash_told o r e = clash_any hs o ∙ sym (e ∙ ap (list_any (λ h. both (overlap h.place o) (not (eqb h.place.size o.size)))) is)
 

@@ -1,53 +1,62 @@
 // An object that an operation holds: its bytes as the operation sees them, and whether it has changed them.
-ghost use Rattle.std.specs.Prelude.{◌≡◌, ◌≤◌, ⊤, false, true, length, not, ◌==◌};
+ghost use Rattle.std.specs.Prelude.{◌≡◌, false, true, length, not, ◌==◌};
 ghost use Rattle.disk.specs.Tests.{both};
-ghost use Rattle.disk.specs.Meaning.{block_size};
 ghost use Rattle.object.specs.Objects.{width, part, laid, same, overlap};
-ghost use Rattle.operation.specs.Held.{IsValue};
+ghost use Rattle.operation.specs.Held.{IsValue, blank};
 
-use arrayvec::ArrayVec;
 use disk::BLOCK;
 use object::{Place, Spot};
 use std::marker::Model;
 
-#[derive(Drop)]
+// The bytes are an array, so that an object can be copied: its own, and then zeros.
+#[derive(Clone, Copy)]
 pub struct Held {
-    spot: Spot,
-    bytes: ArrayVec<u8, BLOCK>,
+    place: Place,
+    bytes: [u8; BLOCK],
     dirty: bool,
 }
 
 // A contract sees the object; its bytes are as many as its size takes, and a bit is 0 or 1.
 impl Model for Held {
+    ghost use Rattle.std.specs.Prelude.{take};
+    ghost use Rattle.std.proofs.Common.{ap};
+    ghost use Rattle.disk.specs.Meaning.{block_size};
     ghost use Rattle.object.specs.Tables.{Held as Object};
-    ghost use Rattle.operation.specs.Held.{IsValue};
+    ghost use Rattle.object.specs.Objects.{width};
+    ghost use Rattle.operation.specs.Held.{Kept, padded};
 
     ghost Value = { Object };
 
-    ghost view = { λ h. record { place = h.spot.place; bytes = h.bytes.items; dirty = h.dirty } };
+    ghost view = { λ h. record { place = h.place; bytes = take (width h.place.size) h.bytes; dirty = h.dirty } };
 
-    ghost invariant = { λ h. IsValue h.spot.place h.bytes.items };
-}
+    ghost invariant = { λ h. Kept h.place h.bytes };
 
-// So many zeros.
-fn zeros(len: usize) -> ArrayVec<u8, BLOCK>
-    requires { len ≤ block_size }
-    ensures { length result.items ≡ len }
-{
-    let mut bytes = ArrayVec::from([0; BLOCK]);
-    bytes.truncate(len);
-    bytes
+    ghost inverse = { λ o. record { place = o.place; bytes = padded block_size 0 o.bytes; dirty = o.dirty } };
+
+    ghost inverse_ok = { λ h kept. ap (λ bs. record { place = h.place; bytes = bs; dirty = h.dirty }) kept.rest };
 }
 
 impl Held {
+    // The first bit of all, zero: it stands in a table's empty places.
+    pub(crate) fn blank() -> Held
+        ensures { result ≡ blank }
+    {
+        let place = Place {
+            block: 0,
+            offset: 0,
+            size: 1,
+        };
+        Held::read(Spot::new(place), &[0; BLOCK])
+    }
+
     // An object as its block has it.
     pub fn read(spot: Spot, block: &[u8; BLOCK]) -> Held
         ensures { result ≡ record { place = spot.place; bytes = part spot.place block.now; dirty = false } }
     {
-        let mut bytes = zeros(spot.place.width());
-        spot.take(block, &mut bytes);
+        let mut bytes = [0; BLOCK];
+        spot.take(block, &mut bytes[..spot.place.width()]);
         Held {
-            spot,
+            place: spot.place,
             bytes,
             dirty: false,
         }
@@ -58,19 +67,28 @@ impl Held {
         requires { IsValue spot.place value.now }
         ensures { result ≡ record { place = spot.place; bytes = value.now; dirty = true } }
     {
-        let mut bytes = zeros(value.len());
-        bytes.copy_from_slice(value);
+        let mut bytes = [0; BLOCK];
+        bytes[..value.len()].copy_from_slice(value);
         Held {
-            spot,
+            place: spot.place,
             bytes,
             dirty: true,
         }
     }
 
+    // The object has new bytes, and is dirty from then on.
+    pub(crate) fn replace(&mut self, value: &[u8])
+        requires { IsValue self.old.place value.now }
+        ensures { self.new ≡ record { place = self.old.place; bytes = value.now; dirty = true } }
+    {
+        self.bytes[..value.len()].copy_from_slice(value);
+        self.dirty = true;
+    }
+
     pub(crate) fn place(&self) -> Place
         ensures { result ≡ self.now.place }
     {
-        self.spot.place
+        self.place
     }
 
     // The object's bytes.
@@ -78,7 +96,7 @@ impl Held {
         ensures bytes { result.now ≡ self.now.bytes }
         ensures long { length result.now ≡ width self.now.place.size }
     {
-        &self.bytes
+        &self.bytes[..self.place.width()]
     }
 
     pub(crate) fn is_dirty(&self) -> bool
@@ -91,14 +109,14 @@ impl Held {
     pub(crate) fn lay(&self, block: &mut [u8; BLOCK])
         ensures { block.new ≡ laid self.now.place self.now.bytes block.old }
     {
-        self.spot.lay(&self.bytes, block);
+        Spot::new(self.place).lay(&self.bytes[..self.place.width()], block);
     }
 
     // Whether it is this object.
     pub(crate) fn is(&self, place: &Place) -> bool
         ensures { result ≡ same self.now.place place.now }
     {
-        self.place() == *place
+        self.place == *place
     }
 
     // Whether it has a bit in common with this object, and another size.
@@ -113,16 +131,11 @@ impl Held {
     }
 }
 
-// The first bit of all, to fill a table's empty places with.
+// What stands in a table's empty places.
 impl Default for Held {
-    ghost is_default = { λ h. ⊤ };
+    ghost is_default = { λ h. h ≡ blank };
 
     fn default() -> Held {
-        let place = Place {
-            block: 0,
-            offset: 0,
-            size: 1,
-        };
-        Held::written(Spot::new(place), &[0])
+        Held::blank()
     }
 }

@@ -7,33 +7,41 @@ ghost use Rattle.object.specs.Objects.{width, same, overlap};
 ghost use Rattle.object.specs.Tables.{most_held, is_in, value_in, holding, clashes};
 ghost use Rattle.model.specs.Outcomes.{passed};
 ghost use Rattle.model.specs.Operations.{dirty_blocks, laid_in};
-ghost use Rattle.operation.specs.Table.{as_fault, table_room, with_dirty};
+ghost use Rattle.operation.specs.Held.{IsValue};
+ghost use Rattle.operation.specs.Table.{as_fault, table_room};
 
+use crate::blocks::BlockList;
 use crate::held::Held;
-use arrayvec::ArrayVec;
 use disk::BLOCK;
-use object::{ObjectFault, Place};
+use object::{ObjectFault, Place, Spot};
 use std::marker::Model;
 
 // How many objects an operation holds at most.
 pub const MOST_HELD: usize = 8;
 
-// The blocks of an operation's dirty objects.
-pub type BlockList = ArrayVec<u32, MOST_HELD>;
-
-#[derive(Drop)]
+// The objects are an array, so that a table can be copied: those held, and then blank ones.
+#[derive(Clone, Copy)]
 pub struct Table {
-    held: ArrayVec<Held, MOST_HELD>,
+    held: [Held; MOST_HELD],
+    len: usize,
 }
 
 // A contract sees the objects held.
 impl Model for Table {
-    ghost use Rattle.std.specs.Prelude.{List};
+    ghost use Rattle.std.specs.Prelude.{List, length, take};
+    ghost use Rattle.std.proofs.Common.{ap, ◌∙◌};
     ghost use Rattle.object.specs.Tables.{Held as Object};
+    ghost use Rattle.operation.specs.Held.{Filled, padded, blank};
 
     ghost Value = { List Object };
 
-    ghost view = { λ t. t.held.items };
+    ghost view = { λ t. take t.len t.held };
+
+    ghost invariant = { λ t. Filled 8 blank t.len t.held };
+
+    ghost inverse = { λ hs. record { held = padded 8 blank hs; len = length hs } };
+
+    ghost inverse_ok = { λ a filled. ap (λ xs. record { held = xs; len = length (take a.len a.held) }) filled.rest ∙ ap (λ n. record { held = a.held; len = n }) filled.count };
 }
 
 impl Table {
@@ -42,7 +50,8 @@ impl Table {
         ensures { result ≡ [] }
     {
         Table {
-            held: ArrayVec::new(),
+            held: [Held::blank(); MOST_HELD],
+            len: 0,
         }
     }
 
@@ -51,7 +60,7 @@ impl Table {
         ensures objects { result.now ≡ self.now }
         ensures few { length result.now ≤ 8 }
     {
-        &self.held
+        &self.held[..self.len]
     }
 
     // The held value of an object.
@@ -64,6 +73,7 @@ impl Table {
     }
 
     // Whether it holds the object.
+    #[tactic(auto, using(crate::proofs::Tables::in_any))]
     pub fn holds(&self, place: &Place) -> bool
         ensures { result ≡ is_in self.now place.now }
     {
@@ -81,7 +91,7 @@ impl Table {
     fn is_full_for(&self, place: &Place) -> bool
         ensures { result ≡ both (nat_le most_held (length self.now)) (not (is_in self.now place.now)) }
     {
-        self.held.is_full() && !self.holds(place)
+        self.len >= MOST_HELD && !self.holds(place)
     }
 
     // Refuses an object that clashes with one held, or that is one too many.
@@ -102,28 +112,29 @@ impl Table {
         requires { length self.old < 8 }
         ensures { self.new ≡ self.old ++ held ∷ [] }
     {
-        self.held.push(held);
+        self.held[self.len] = held;
+        self.len += 1;
     }
 
-    // Holds the object in place of what is held of it; adds it where nothing is.
-    pub fn overwrite(&mut self, held: Held)
-        requires { both (nat_le most_held (length self.old)) (not (is_in self.old held.place)) ≡ false }
-        ensures { self.new ≡ holding self.old held }
+    // Gives an object new bytes, and marks it dirty; adds it where it is not held.
+    pub fn overwrite(&mut self, spot: Spot, value: &[u8])
+        requires value { IsValue spot.place value.now }
+        requires room { both (nat_le most_held (length self.old)) (not (is_in self.old spot.place)) ≡ false }
+        ensures { self.new ≡ holding self.old (record { place = spot.place; bytes = value.now; dirty = true }) }
     {
-        let place = held.place();
-        match position(self.entries(), &place) {
-            Some(i) => self.held[i] = held,
-            None => self.held.push(held),
+        match position(self.entries(), &spot.place) {
+            Some(i) => self.held[i].replace(value),
+            None => self.add(Held::written(spot, value)),
         }
     }
 
     // The blocks of the dirty objects in table order, each once.
     pub fn dirty_blocks(&self) -> BlockList
-        ensures { result.items ≡ dirty_blocks self.now [] }
+        ensures { result ≡ dirty_blocks self.now [] }
     {
-        let mut blocks = ArrayVec::new();
+        let mut blocks = BlockList::new();
         for held in self.entries() {
-            list(&mut blocks, held);
+            blocks.add(held);
         }
         blocks
     }
@@ -166,17 +177,6 @@ fn position(held: &[Held], place: &Place) -> Option<usize>
     ensures { result ≡ position (λ h. same h.place place.now) held.now }
 {
     held.iter().position(|held| held.is(place))
-}
-
-// Lists the block of a dirty object at the end, unless it is there.
-fn list(blocks: &mut BlockList, held: &Held)
-    requires { length blocks.old.items < 8 }
-    ensures { blocks.new.items ≡ with_dirty blocks.old.items held.now }
-{
-    let block = held.place().block;
-    if held.is_dirty() && !blocks.contains(&block) {
-        blocks.push(block);
-    }
 }
 
 // Lays the object into a block's bytes, if it is dirty and of that block.

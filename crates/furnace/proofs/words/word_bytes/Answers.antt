@@ -1,5 +1,5 @@
 use Rattle.std.proofs.Common.{arith, rules}
-use Rattle.furnace.proofs.Made.{made_at}
+use Rattle.card.proofs.Made.{made_at}
 use Rattle.furnace.proofs.Bytes.{IsByte, words_back}
 use Rattle.furnace.proofs.words.word_bytes.Goals as goal
 

@@ -1,7 +1,8 @@
-use Rattle.std.proofs.Common.{◌≡◌, ◌-◌, map}
-use Rattle.journal_log.specs.Ring.{rows_from}
-use Rattle.list_card.specs.Listing.{home_of}
+use Rattle.std.proofs.Common.{◌≡◌, ℕ, ◌+◌, ◌<◌, length, get_or}
+use Rattle.journal_log.specs.Ring.{row_at}
 use Rattle.list_card.proofs.lists.live_homes.Given as goal
 
-abbrev pub invariant-loop-position : goal.invariant-loop-position
-invariant-loop-position l = l.homes.items ≡ map home_of (rows_from l.log.ring.rows l.log.start (l.position - l.log.start))
+abbrev pub invariant-loop-p : goal.invariant-loop-p
+invariant-loop-p l =
+    (length l.homes ≡ 62) ×
+    ((k : ℕ) → l.log.start + k < l.p → get_or l.homes k 0 ≡ (row_at l.log.ring.rows (l.log.start + k)).home)

@@ -1,6 +1,6 @@
 use Rattle.std.proofs.Common.{ap, rules}
 use Rattle.furnace.specs.Words.{word_in}
-use Rattle.furnace.proofs.Made.{made}
+use Rattle.card.proofs.Made.{made}
 use Rattle.furnace.proofs.melt.MeltStoredMELT_BYTES.decode.Goals as goal
 
 pub returns : goal.returns

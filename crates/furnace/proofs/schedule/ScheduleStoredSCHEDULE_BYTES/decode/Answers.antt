@@ -1,6 +1,6 @@
 use Rattle.std.proofs.Common.{ap, rules}
 use Rattle.furnace.specs.Settings.{firing_in}
-use Rattle.furnace.proofs.Made.{made}
+use Rattle.card.proofs.Made.{made}
 use Rattle.furnace.proofs.schedule.ScheduleStoredSCHEDULE_BYTES.decode.Goals as goal
 
 pub returns : goal.returns

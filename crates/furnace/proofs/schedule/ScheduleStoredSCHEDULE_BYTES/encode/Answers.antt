@@ -1,5 +1,5 @@
 use Rattle.std.proofs.Common.{ap, ◌∙◌, arith, rules}
-use Rattle.furnace.proofs.Made.{made}
+use Rattle.card.proofs.Made.{made}
 use Rattle.furnace.proofs.Firings.{number_of, firings_back}
 use Rattle.furnace.proofs.schedule.ScheduleStoredSCHEDULE_BYTES.encode.Goals as goal
 

@@ -47,9 +47,8 @@ returns g c =
     let none = not_in o hs (sym c.in_default.ensures.value) in
     let found = c.in_ok-block.ensures in
     let e = live_granted l d o hs ok none _ found in
-    let h = c.read-held.ensures in
     record {
       answer = sym (ap passed e);
-      buffer = c.copy_from_slice-2.ensures.after ∙ c.value-2.ensures.bytes ∙ ap (λ (x : Held). x.bytes) h ∙ live_seen l d o hs ok none _ found ∙ granted_so _ _ e;
-      table = c.add.ensures ∙ ap (λ (x : Held). hs ++ x ∷ []) h ∙ live_held l d o hs ok none _ found _ refl ∙ granted_so _ _ e;
+      buffer = c.take.ensures.bytes ∙ live_seen l d o hs ok none _ found ∙ granted_so _ _ e;
+      table = c.add.ensures ∙ ap (λ (x : Held). hs ++ x ∷ []) c.read.ensures ∙ live_held l d o hs ok none _ found _ refl ∙ granted_so _ _ e;
     }

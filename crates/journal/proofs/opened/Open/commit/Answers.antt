@@ -7,7 +7,7 @@ use Rattle.journal.proofs.opened.Open.commit.Goals as goal
 
 pub add_all-requires : goal.add_all-requires
 add_all-requires g c =
-    let r = room (open_view c.args.self.now) (g.D.Disk.blocks c.args.disk.now) c.args.number c.as_slice.result.now (ap Ok c.as_slice.ensures.value ∙ c.in_ok-staged.ensures) in
+    let r = room (open_view c.args.self.now) (g.D.Disk.blocks c.args.disk.now) c.args.number c.as_slice.result.now (ap Ok c.as_slice.ensures.value ∙ c.in_ok-prepare.ensures) in
     record { slots = r.0; top = r.1 }
 
 pub returns : goal.returns
@@ -16,7 +16,7 @@ returns g c =
     let d = g.D.Disk.blocks c.args.disk.now in
     let n = c.args.number in
     let vs = c.as_slice.result.now in
-    let ready = ap Ok c.as_slice.ensures.value ∙ c.in_ok-staged.ensures in
+    let ready = ap Ok c.as_slice.ensures.value ∙ c.in_ok-prepare.ensures in
     let l = view c.add_all.new.self in
     let k = open_view c.close.new.self in
     record {

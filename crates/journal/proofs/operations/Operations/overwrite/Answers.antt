@@ -1,5 +1,5 @@
 use Rattle.std.proofs.Common.{true, [], Some, None, unwrap_or, sym, refl, ap, ◌∙◌, arith}
-use Rattle.std.proofs.lemmas.List.{get_or_default, get_or_past}
+use Rattle.std.proofs.lemmas.List.{get_or_default}
 use Rattle.disk.specs.Tests.{unless}
 use Rattle.object.specs.Objects.{width}
 use Rattle.object.specs.Tables.{Held, holding}
@@ -8,7 +8,7 @@ use Rattle.model.specs.Calls.{overwrites, grants}
 use Rattle.journal_log.specs.View.{view}
 use Rattle.journal.specs.View.{opened}
 use Rattle.journal.specs.Touch.{overwritten_by}
-use Rattle.journal.proofs.Slots.{decided_answer, overwritten_state, overwritten_none, slot_set}
+use Rattle.journal.proofs.Slots.{decided_answer, overwritten_state, slot_set}
 use Rattle.journal.proofs.operations.Operations.overwrite.Goals as goal
 
 pub returns : goal.returns

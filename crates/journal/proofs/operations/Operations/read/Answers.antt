@@ -1,5 +1,5 @@
 use Rattle.std.proofs.Common.{[], length, Some, None, unwrap_or, sym, refl, ap, ◌∙◌, arith}
-use Rattle.std.proofs.lemmas.List.{get_or_default, get_or_past}
+use Rattle.std.proofs.lemmas.List.{get_or_default}
 use Rattle.disk.specs.Tests.{unless}
 use Rattle.object.specs.Objects.{width}
 use Rattle.model.specs.Outcomes.{value_unless}
@@ -7,7 +7,7 @@ use Rattle.model.specs.Calls.{reading}
 use Rattle.journal_log.specs.View.{view}
 use Rattle.journal.specs.View.{opened}
 use Rattle.journal.specs.Touch.{seen_by, read_into, read_by}
-use Rattle.journal.proofs.Slots.{decided_answer, decided_buffer, read_state, read_none, slot_set}
+use Rattle.journal.proofs.Slots.{decided_answer, decided_buffer, read_state, slot_set}
 use Rattle.journal.proofs.operations.Operations.read.Goals as goal
 
 pub returns : goal.returns

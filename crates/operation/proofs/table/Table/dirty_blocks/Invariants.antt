@@ -4,5 +4,5 @@ use Rattle.operation.proofs.table.Table.dirty_blocks.Given as goal
 
 abbrev pub invariant-loop-held : goal.invariant-loop-held
 invariant-loop-held l =
-    (length l.blocks.items ≤ l.held-index) ×
-    (l.blocks.items ++ dirty_blocks (drop l.held-index l.held-items) l.blocks.items ≡ dirty_blocks l.self [])
+    (length l.blocks ≤ l.held-index) ×
+    (l.blocks ++ dirty_blocks (drop l.held-index l.held-items) l.blocks ≡ dirty_blocks l.self [])
