@@ -40,6 +40,9 @@ module _ {X : Type 0} (n : ℕ) (x : X) where
     pub push_view : (h : X) → len < n → take (len + 1) (set xs len h) ≡ (take len xs) ++ h ∷ []
     push_view h l = ap (take (len + 1)) (push_is h l) ∙ front ((take len xs) ++ h ∷ []) (len + 1) (long h)
 
+    pub push_filled : (h : X) → len < n → Filled n x (len + 1) (set xs len h)
+    push_filled h l = subst (Filled n x (len + 1)) (sym (push_is h l)) (filled_of (take len xs ++ h ∷ []) (len + 1) (long h) (omega arith))
+
     -- one of them is replaced
     put_is : (i : ℕ) (h : X) → i < len → set xs i h ≡ padded n x (set (take len xs) i h)
     put_is i h l =
