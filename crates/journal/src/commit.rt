@@ -50,7 +50,7 @@ impl<D: Disk> Journal<D> {
 }
 
 impl Open {
-    // Tests all that a commit tests, and stages its updates. Nothing is changed yet.
+    // Tests all that a commit tests, and stages its updates. Nothing but the list is changed yet.
     fn prepare<D: Disk>(&self, disk: &D, number: u32, staged: &mut Staged) -> Result<(), Fault>
         requires { staged.old ≡ [] }
         ensures { staged_as result staged.new ≡ value_unless (first_of (tests_of (commits number) (open_view self.now) (D.Disk.blocks disk.now))) (updates_of (open_view self.now) (D.Disk.blocks disk.now) number) }
@@ -93,7 +93,7 @@ impl<'a, D: Disk> Newest<'a, D> {
         Ok(Update { home: block, bytes })
     }
 
-    // Stages the updates of dirty blocks. Nothing is changed yet.
+    // Stages the updates of dirty blocks. Nothing but the list is changed yet.
     fn stage(&self, table: &Table, blocks: &[u32], staged: &mut Staged) -> Result<(), ObjectFault>
         requires few { length blocks.now ≤ 8 }
         requires none { staged.old ≡ [] }

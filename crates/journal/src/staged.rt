@@ -1,5 +1,5 @@
 // The updates that a commit is to add: at most as many as an operation holds objects. An array of one's own, lent on the way: a list of the
-// kit, and one that is handed on, were tried, and a commit took half as long again.
+// kit, and one that is handed on, were tried, and a commit took 1.6 times as long.
 ghost use Rattle.std.specs.Prelude.{◌≡◌, ◌<◌, ◌≤◌, [], ◌∷◌, ◌++◌, length};
 
 use card::Update;

@@ -4,7 +4,6 @@ ghost use Rattle.card.specs.Layout.{slot as slot_of};
 ghost use Rattle.journal_log.specs.Ring.{blank, row_at};
 
 use card::{SLOTS, Update, slot};
-use disk::BLOCK;
 
 #[derive(Clone, Copy)]
 pub(crate) struct Ring {
@@ -17,12 +16,9 @@ impl Ring {
     pub(crate) fn new() -> Ring
         ensures { result.rows ≡ replicate 62 blank }
     {
-        // written out: `Update::default` was tried, and its zeros take a proof of their own
-        let row = Update {
-            home: 0,
-            bytes: [0; BLOCK],
-        };
-        Ring { rows: [row; SLOTS] }
+        Ring {
+            rows: [Update::default(); SLOTS],
+        }
     }
 
     // The update at a position is this one.

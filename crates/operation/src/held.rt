@@ -37,18 +37,6 @@ impl Model for Held {
 }
 
 impl Held {
-    // The first bit of all, zero: it stands in a table's empty places.
-    pub(crate) fn blank() -> Held
-        ensures { result ≡ blank }
-    {
-        let place = Place {
-            block: 0,
-            offset: 0,
-            size: 1,
-        };
-        Held::read(Spot::new(place), &[0; BLOCK])
-    }
-
     // An object as its block has it.
     pub fn read(spot: Spot, block: &[u8; BLOCK]) -> Held
         ensures { result ≡ record { place = spot.place; bytes = part spot.place block.now; dirty = false } }
@@ -131,11 +119,16 @@ impl Held {
     }
 }
 
-// What stands in a table's empty places.
+// The first bit of all, zero: it stands in a table's empty places.
 impl Default for Held {
     ghost is_default = { λ h. h ≡ blank };
 
     fn default() -> Held {
-        Held::blank()
+        let place = Place {
+            block: 0,
+            offset: 0,
+            size: 1,
+        };
+        Held::read(Spot::new(place), &[0; BLOCK])
     }
 }

@@ -50,7 +50,7 @@ impl Table {
         ensures { result ≡ [] }
     {
         Table {
-            held: [Held::blank(); MOST_HELD],
+            held: [Held::default(); MOST_HELD],
             len: 0,
         }
     }
