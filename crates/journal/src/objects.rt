@@ -91,7 +91,7 @@ impl<'a, D: Disk> Newest<'a, D> {
         let spot = check_place(self.disk, place, bytes.len())?;
         check_bit(place, bytes)?;
         self.check_held(table, place)?;
-        table.overwrite(spot, bytes);
+        table.write(spot, bytes);
         Ok(place.width())
     }
 

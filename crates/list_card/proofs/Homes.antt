@@ -19,10 +19,13 @@ use Rattle.model.proofs.Calls.{opening_granted}
 use Rattle.list_card.specs.declared.lists.Live.{Live}
 use Rattle.list_card.specs.Listing.{Lives, home_of, homes_of, row_homes, fields_of, listed, live_told, told_of}
 
-pub home_live : (l : Memory) (p : ℕ) → l.start ≤ p → p < l.end → unwrap_or (home_at l p) 0 ≡ (row_at l.ring.rows p).home
+pub home_live : (l : Memory) (p : ℕ) → l.start ≤ p → p < l.end → home_at l p ≡ Some (row_at l.ring.rows p).home
 home_live l p a b =
-    ap (λ t. unwrap_or (cond t None (cond (leb l.end p) None (Some (row_at l.ring.rows p).home))) 0) (le-ltb p l.start a) ∙
-    ap (λ t. unwrap_or (cond t None (Some (row_at l.ring.rows p).home)) 0) (lt-leb l.end p b)
+    ap (λ t. cond t None (cond (leb l.end p) None (Some (row_at l.ring.rows p).home))) (le-ltb p l.start a) ∙
+    ap (λ t. cond t None (Some (row_at l.ring.rows p).home)) (lt-leb l.end p b)
+
+pub home_or_zero : (l : Memory) (p : ℕ) → l.start ≤ p → p < l.end → unwrap_or (home_at l p) 0 ≡ (row_at l.ring.rows p).home
+home_or_zero l p a b = ap (λ o. unwrap_or o 0) (home_live l p a b)
 
 module _ (rows : List Update) (start : ℕ) (homes : List ℕ) where
   -- one home more

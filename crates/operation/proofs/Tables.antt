@@ -1,5 +1,5 @@
 -- What a table answers, as searches of its objects.
-use Rattle.std.proofs.Common.{◌≡◌, ℕ, zero, suc, ◌<◌, ◌≤◌, Bool, true, false, cond, not, ◌||◌, eqb, leb, List, [], ◌∷◌, ◌++◌, length, get_or, set, Some, None, Option, sym, refl, ap, subst, ◌∙◌, ⊎_elim, arith}
+use Rattle.std.proofs.Common.{◌≡◌, ℕ, zero, suc, ◌<◌, ◌≤◌, Bool, true, false, cond, not, ◌||◌, eqb, leb, List, [], ◌∷◌, ◌++◌, length, take, get_or, set, Some, None, Option, sym, refl, ap, subst, ◌∙◌, ⊎_elim, arith}
 use Rattle.std.specs.List.{list_any, find, position, position_or_len}
 use Rattle.std.specs.Option.{option_map}
 use Rattle.std.proofs.lemmas.Bool.{cases_Bool, ltb-false, leb-false, ne_eqb, eq-eqb, cases_eq}
@@ -10,6 +10,8 @@ use Rattle.object.specs.Objects.{same, overlap}
 use Rattle.object.specs.Tables.{Held, value_in, is_in, holding, clashes}
 use Rattle.object.proofs.Tables.{same_place}
 use Rattle.model.specs.Operations.{among}
+use Rattle.operation.specs.Held.{Filled, blank}
+use Rattle.operation.proofs.Padding.{put_at}
 
 either_or : (a b : Bool) → either a b ≡ (a || b)
 either_or true b = refl
@@ -88,6 +90,16 @@ module _ (hs es : List Held) (is : es ≡ hs) where
 
   pub place_told : (h : Held) (o : Place) (r : Option ℕ) → o ≡ h.place → r ≡ position (λ g. same g.place o) es → position (λ g. same g.place h.place) hs ≡ r
   place_told h o r e f = sym (f ∙ ap (position (λ g. same g.place o)) is ∙ ap (λ (q : Place). position (λ g. same g.place q) hs) e)
+
+-- the entry at the position that was found is the object's, and one of those held
+pub at_found : (hs xs : List Held) (n : ℕ) → Filled 8 blank n xs → take n xs ≡ hs → (o : Place) (i : ℕ) → position (λ (g : Held). same g.place o) hs ≡ Some i → (d : Held) → (i < n) × ((get_or xs i d).place ≡ o)
+at_found hs xs n f is o i e d =
+    let p = position-Some (λ (g : Held). same g.place o) hs i d e in
+    let v = ap length is in
+    let c = f.count in
+    let q = p.0 in
+    let l : i < n = omega arith in
+    (l, ap (λ (g : Held). g.place) (put_at 8 blank n xs f i d l ∙ ap (λ hs. get_or hs i d) is) ∙ (same_place (get_or hs i d).place o).0 p.1)
 
 both_true : (a : Bool) → both a true ≡ false → a ≡ false
 both_true true e = e

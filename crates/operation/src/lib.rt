@@ -5,6 +5,8 @@ mod blocks;
 mod held;
 mod place;
 mod table;
+#[cfg(test)]
+mod tests;
 
 pub use blocks::BlockList;
 pub use held::Held;

@@ -116,8 +116,19 @@ impl Table {
         self.len += 1;
     }
 
+    // Holds the object in place of what is held of it; adds it where nothing is.
+    pub fn overwrite(&mut self, held: Held)
+        requires { both (nat_le most_held (length self.old)) (not (is_in self.old held.place)) ≡ false }
+        ensures { self.new ≡ holding self.old held }
+    {
+        match position(self.entries(), &held.place()) {
+            Some(i) => self.held[i] = held,
+            None => self.add(held),
+        }
+    }
+
     // Gives an object new bytes, and marks it dirty; adds it where it is not held.
-    pub fn overwrite(&mut self, spot: Spot, value: &[u8])
+    pub fn write(&mut self, spot: Spot, value: &[u8])
         requires value { IsValue spot.place value.now }
         requires room { both (nat_le most_held (length self.old)) (not (is_in self.old spot.place)) ≡ false }
         ensures { self.new ≡ holding self.old (record { place = spot.place; bytes = value.now; dirty = true }) }

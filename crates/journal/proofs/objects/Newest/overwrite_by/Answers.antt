@@ -25,8 +25,8 @@ returns-in_err-check_held g c =
     let p = err_from_is_err_and c.from_residual-in_err-check_held.result c.from_residual-in_err-check_held.ensures.1 in
     rw (p.1, p.2) (record { answer = sym (ap (λ x. value_unless x (width o.size)) e); table = refused_so _ _ _ e })
 
-pub overwrite-requires : goal.overwrite-requires
-overwrite-requires g c =
+pub write-requires : goal.write-requires
+write-requires g c =
     let q = (value_ok _ c.args.place _ c.in_ok-spot.ensures.answer).1 in
     rw q (record { value = (c.in_ok-spot.ensures.long, c.in_ok-check_bit.ensures.bit); room = c.in_ok-check_held.ensures.room })
 
@@ -43,5 +43,5 @@ returns g c =
     let q = (value_ok _ o _ c.in_ok-spot.ensures.answer).1 in
     record {
       answer = ap Ok c.width.ensures ∙ sym (ap (λ x. value_unless x (width o.size)) e);
-      table = c.overwrite.ensures ∙ ap (holding hs) (ap (λ (x : Place). let h : Held = record { place = x; bytes = bs; dirty = true } in h) q) ∙ granted_so _ _ e;
+      table = c.write.ensures ∙ ap (holding hs) (ap (λ (x : Place). let h : Held = record { place = x; bytes = bs; dirty = true } in h) q) ∙ granted_so _ _ e;
     }

@@ -1,68 +1,32 @@
-use Rattle.std.proofs.Common.{◌≡◌, ℕ, ◌<◌, true, Some, List, ◌∷◌, ◌++◌, [], length, take, get_or, set, sym, refl, ap, subst, ◌∙◌, arith}
-use Rattle.std.specs.List.{position}
-use Rattle.std.proofs.lemmas.List.Quantifiers.{position-Some}
-use Rattle.object.specs.declared.Place.{Place}
-use Rattle.object.specs.Objects.{same}
-use Rattle.object.specs.Tables.{Held}
-use Rattle.object.proofs.Tables.{same_place}
-use Rattle.operation.specs.Held.{blank, Filled, IsValue}
-use Rattle.operation.proofs.Padding.{put_at, put_view, put_filled}
-use Rattle.operation.proofs.Tables.{held_first, held_last, place_told, room_left}
+use Rattle.std.proofs.Common.{set, sym, ap, ◌∙◌, rules}
+use Rattle.operation.specs.Held.{blank}
+use Rattle.operation.proofs.Padding.{put_view, put_filled}
+use Rattle.operation.proofs.Tables.{held_first, held_last, place_told, at_found, room_left}
 use Rattle.operation.proofs.table.Table.overwrite.Goals as goal
 
--- the object with its new bytes
-abbrev written : Place → List ℕ → Held
-written o v = record { place = o; bytes = v; dirty = true }
-
--- the entry at the position that was found is the object's, and one of those held
-at_found : (hs xs : List Held) (n : ℕ) → Filled 8 blank n xs → take n xs ≡ hs → (o : Place) (i : ℕ) → position (λ (g : Held). same g.place o) hs ≡ Some i → (d : Held) → (i < n) × ((get_or xs i d).place ≡ o)
-at_found hs xs n f is o i e d =
-    let p = position-Some (λ (g : Held). same g.place o) hs i d e in
-    let v = ap length is in
-    let c = f.count in
-    let q = p.0 in
-    let l : i < n = omega arith in
-    (l, ap (λ (g : Held). g.place) (put_at 8 blank n xs f i d l ∙ ap (λ hs. get_or hs i d) is) ∙ (same_place (get_or hs i d).place o).0 p.1)
-
-pub replace-requires : goal.replace-requires
-replace-requires c =
-    let o = c.args.spot.place in
-    let h = written o c.args.value.now in
-    let p = place_told c.args.self.now _ c.entries.ensures.objects h _ _ refl c.position.ensures ∙ c.in-Some.is in
-    let a = at_found c.args.self.now c.self.inside.held c.self.inside.len c.self.invariant c.self.view_is o c.in-Some.i p c.index-self-i.result in
-    subst (λ (q : Place). IsValue q c.args.value.now) (sym a.1) c.requires.value
-
+-- whichever place of those held is written, the table stays padded
 pub invariant_of-self : goal.invariant_of-self
 invariant_of-self c =
-    let h = written c.args.spot.place c.args.value.now in
-    let t = c.self.inside in
-    let p = place_told c.args.self.now _ c.entries.ensures.objects h _ _ refl c.position.ensures ∙ c.in-Some.is in
-    let a = at_found c.args.self.now t.held t.len c.self.invariant c.self.view_is h.place c.in-Some.i p h in
-    put_filled 8 blank t.len t.held c.self.invariant c.in-Some.i c.replace.new.self a.0
+    let p = place_told c.args.self.now _ c.entries.ensures.objects c.args.held _ _ c.place.ensures c.position.ensures ∙ c.in-Some.is in
+    let there = (at_found c.args.self.now c.self.inside.held c.self.inside.len c.self.invariant c.self.view_is c.args.held.place c.in-Some.i p c.args.held).0 in
+    search (rules, put_filled)
 
 pub add-requires : goal.add-requires
 add-requires c =
     let hs = c.args.self.now in
-    let h = written c.args.spot.place c.args.value.now in
-    let p = place_told hs _ c.entries.ensures.objects h _ _ refl c.position.ensures ∙ c.in-None.is in
-    room_left hs h.place (held_last h hs p).0 c.requires.room
+    let p = place_told hs _ c.entries.ensures.objects c.args.held _ _ c.place.ensures c.position.ensures ∙ c.in-None.is in
+    room_left hs c.args.held.place (held_last c.args.held hs p).0 c.requires
 
 pub returns-in-Some : goal.returns-in-Some
 returns-in-Some c =
     let hs = c.args.self.now in
     let t = c.self.inside in
-    let h = written c.args.spot.place c.args.value.now in
-    let i = c.in-Some.i in
-    let p = place_told hs _ c.entries.ensures.objects h _ _ refl c.position.ensures ∙ c.in-Some.is in
-    let a = at_found hs t.held t.len c.self.invariant c.self.view_is h.place i p c.index-self-i.result in
-    put_view 8 blank t.len t.held c.self.invariant i c.replace.new.self a.0 ∙
-    ap (λ xs. set xs i c.replace.new.self) c.self.view_is ∙
-    ap (set hs i) (c.replace.ensures ∙ ap (λ (q : Place). written q c.args.value.now) a.1) ∙
-    sym (held_first h hs i p).1
+    let h = c.args.held in
+    let p = place_told hs _ c.entries.ensures.objects h _ _ c.place.ensures c.position.ensures ∙ c.in-Some.is in
+    let there = (at_found hs t.held t.len c.self.invariant c.self.view_is h.place c.in-Some.i p h).0 in
+    put_view 8 blank t.len t.held c.self.invariant c.in-Some.i h there ∙ ap (λ xs. set xs c.in-Some.i h) c.self.view_is ∙ sym (held_first h hs c.in-Some.i p).1
 
 pub returns-in-None : goal.returns-in-None
 returns-in-None c =
-    let hs = c.args.self.now in
-    let h = written c.args.spot.place c.args.value.now in
-    let p = place_told hs _ c.entries.ensures.objects h _ _ refl c.position.ensures ∙ c.in-None.is in
-    c.add.ensures ∙ ap (λ g. hs ++ g ∷ []) c.written.ensures ∙ sym (held_last h hs p).1
+    let p = place_told c.args.self.now _ c.entries.ensures.objects c.args.held _ _ c.place.ensures c.position.ensures ∙ c.in-None.is in
+    c.add.ensures ∙ sym (held_last c.args.held c.args.self.now p).1
